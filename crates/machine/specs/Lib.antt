@@ -1,0 +1,4 @@
+pub mod Causes
+pub mod Checks
+pub mod Meaning
+pub mod Wheels
