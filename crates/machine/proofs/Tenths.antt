@@ -1,25 +1,39 @@
 -- A tenth to the nearest whole number, from the quotient and the remainder by ten.
 use mathlib.Core.Path.{_≡_, refl, ap}
 use mathlib.Core.Logic.{_⊎_, inl, inr}
-use Prim.Native.Nat.{ℕ, zero, suc, _+_, _*_, _/_, _<_, _≤_}
+use Prim.Native.Nat.{ℕ, zero, suc, _+_, _*_, _/_, _%_, _<_, _≤_}
 use lib.IntN.{ℤ, pos, negsuc, negℤ, natAbs, _+ℤ_, _-ℤ_, _*ℤ_}
-use lib.Signed.{_≤ℤ_, _<ℤ_, quotZ, remZ}
+use lib.Signed.{_≤ℤ_, quotZ, remZ}
 use native.Mathlib.Omega.{arith}
 use Rattle.std.proofs.shelf.Signed.{ints}
-use Rattle.machine.specs.Wheels.{hundredths, Nearest}
+use Rattle.std.proofs.shelf.Tests.{cases-lt}
+use Rattle.machine.specs.Wheels.{hundredths, Nearest, Carried}
 
--- half or more above the quotient, half or more below it, and between
-pub tenth-up : (x q : ℤ) → pos 5 ≤ℤ remZ x (pos 10) → q ≡ quotZ x (pos 10) +ℤ pos 1 → q ≡ hundredths x
-tenth-up (pos a) q h e = omega (arith, ints)
-tenth-up (negsuc a) q h e = omega (arith, ints)
+-- the quotient and what the remainder carries
+pub tenth : (x c q : ℤ) → Carried (remZ x (pos 10)) c → q ≡ quotZ x (pos 10) +ℤ c → q ≡ hundredths x
+tenth (pos a) c q k e =
+    elim (cases-lt (a % 10) 5) [
+      | inl l ↦ let z = k .none (omega (arith, ints)) (omega (arith, ints)) in omega (arith, ints)
+      | inr g ↦ let z = k .up (omega (arith, ints)) in omega (arith, ints)
+    ]
+tenth (negsuc a) c q k e =
+    elim (cases-lt (suc a % 10) 5) [
+      | inl l ↦ let z = k .none (omega (arith, ints)) (omega (arith, ints)) in omega (arith, ints)
+      | inr g ↦ let z = k .down (omega (arith, ints)) in omega (arith, ints)
+    ]
 
-pub tenth-down : (x q : ℤ) → remZ x (pos 10) ≤ℤ negsuc 4 → q ≡ quotZ x (pos 10) -ℤ pos 1 → q ≡ hundredths x
-tenth-down (pos a) q h e = omega (arith, ints)
-tenth-down (negsuc a) q h e = omega (arith, ints)
-
-pub tenth-same : (x q : ℤ) → negsuc 4 <ℤ remZ x (pos 10) → remZ x (pos 10) <ℤ pos 5 → q ≡ quotZ x (pos 10) → q ≡ hundredths x
-tenth-same (pos a) q h l e = omega (arith, ints)
-tenth-same (negsuc a) q h l e = omega (arith, ints)
+-- what is carried is one at most
+pub carried-small : (rest c : ℤ) → Carried rest c → (negsuc 0 ≤ℤ c) × (c ≤ℤ pos 1)
+carried-small (pos a) c k =
+    elim (cases-lt a 5) [
+      | inl l ↦ let z = k .none (omega (arith, ints)) (omega (arith, ints)) in (omega (arith, ints), omega (arith, ints))
+      | inr g ↦ let z = k .up (omega (arith, ints)) in (omega (arith, ints), omega (arith, ints))
+    ]
+carried-small (negsuc a) c k =
+    elim (cases-lt a 4) [
+      | inl l ↦ let z = k .none (omega (arith, ints)) (omega (arith, ints)) in (omega (arith, ints), omega (arith, ints))
+      | inr g ↦ let z = k .down (omega (arith, ints)) in (omega (arith, ints), omega (arith, ints))
+    ]
 
 -- a number between -n and n has at most the size n
 size-le : (d : ℤ) (n : ℕ) → d ≤ℤ pos n → negℤ (pos n) ≤ℤ d → natAbs d ≤ n

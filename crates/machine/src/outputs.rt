@@ -3,7 +3,7 @@ ghost use mathlib.Core.Path.{_≡_};
 ghost use mathlib.Core.List.{List, [], _∷_};
 ghost use lib.IntN.{ℤ, pos};
 ghost use Rattle.std.specs.Orderings.{Decides};
-ghost use Rattle.machine.specs.Wheels.{hundredths, Nearest, wheelKey};
+ghost use Rattle.machine.specs.Wheels.{hundredths, Nearest, Carried, wheelKey};
 
 // A kind gives each value a key; two values are alike exactly when their keys are equal.
 pub trait Output: Copy {
@@ -50,14 +50,19 @@ pub fn to_hundredths(offset: i16) -> i16
     ensures value { λ r. ⌜ r ≡ hundredths offset ⌝ }
     ensures nearest { λ r. ⌜ Nearest offset r ⌝ }
 {
-    let whole = offset / 10;
-    let rest = offset % 10;
+    offset / 10 + carry(offset % 10)
+}
+
+// What a remainder by ten adds to the quotient.
+fn carry(rest: i16) -> i16
+    ensures { λ r. ⌜ Carried rest r ⌝ }
+{
     if rest >= 5 {
-        whole + 1
+        1
     } else if rest <= -5 {
-        whole - 1
+        -1
     } else {
-        whole
+        0
     }
 }
 
