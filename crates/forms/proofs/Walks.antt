@@ -16,7 +16,7 @@ use Rattle.forms.specs.Bytes.{number, states, count}
 use Rattle.forms.specs.declared.chains.Record.{Record}
 use Rattle.forms.specs.Entries.{fault}
 use Rattle.forms.proofs.Bounds.{test-passed}
-use Rattle.forms.specs.Chains.{Trail, Read, Ended, Broken, Rising, WalksRise, ending, trail, walk, recordAt, covers, recordCell, given, chainEntry}
+use Rattle.forms.specs.Chains.{Trail, Read, Ended, Broken, Rising, WalksRise, follows, ending, trail, walk, recordAt, covers, recordCell, given, chainEntry}
 
 -- an ending has no more records
 end-rising : (m p r : ℕ) → Rising m p (ending r)
@@ -25,9 +25,9 @@ end-rising m p r = cond-both (eqb r 0) Ended Broken (Rising m p) (λ _. tt) (λ 
 module _ (bs : List ℕ) where
   -- a link that is followed, and one that is not
   pub followed : (more p r : ℕ) → p < r → r ≤ count bs → trail (suc more) bs p r ≡ Read r (trail more bs r (recordAt bs r .link))
-  followed more p r l h = cond-true _ _ _ (and-from (ltb p r) (leb r (count bs)) (lt-ltb p r l) (le-leb r (count bs) h))
+  followed more p r l h = cond-true _ _ _ (and-from _ _ (lt-ltb p r l) (le-leb r (count bs) h))
 
-  pub stopped : (more p r : ℕ) → (ltb p r && leb r (count bs)) ≡ false → trail more bs p r ≡ ending r
+  pub stopped : (more p r : ℕ) → follows p r (count bs) ≡ false → trail more bs p r ≡ ending r
   stopped zero p r h = refl
   stopped (suc more) p r h = cond-false _ _ _ h
 
@@ -36,8 +36,8 @@ module _ (bs : List ℕ) where
   enough zero g p r h l = sym (stopped g p r (grind (arith, tells)))
   enough (suc f) zero p r h l = stopped (suc f) p r (grind (arith, tells))
   enough (suc f) (suc g) p r h l =
-      elim (cases-bool (ltb p r && leb r (count bs))) [
-        | inl t ↦ let b = ltb-true p r (and-parts (ltb p r) (leb r (count bs)) t .0) in
+      elim (cases-bool (follows p r (count bs))) [
+        | inl t ↦ let b = ltb-true p r (and-parts _ _ t .0) in
             let e = enough f g r (recordAt bs r .link) (omega arith) (omega arith) in
             cond-true _ _ _ t ∙ (ap (Read r) e ∙ sym (cond-true _ _ _ t))
         | inr t ↦ stopped (suc f) p r t ∙ sym (stopped (suc g) p r t)
@@ -65,7 +65,7 @@ module _ (bs : List ℕ) where
       ∙ (cond-false (covers (recordAt bs r) i) _ _ t ∙ ap (λ (y : Record). given bs s i r (trail (count bs - r) bs r (y .link))) (sym e))
 
   -- and where it ends
-  pub at-end : (s i p r : ℕ) → (ltb p r && leb r (count bs)) ≡ false
+  pub at-end : (s i p r : ℕ) → follows p r (count bs) ≡ false
       → given bs s i p (trail (count bs - p) bs p r) ≡ fault (cond (eqb r 0) cause.Blank cause.Link) s i p
   at-end s i p r h =
       ap (given bs s i p) (stopped (count bs - p) p r h)
@@ -91,8 +91,8 @@ module _ (bs : List ℕ) where
   pub trail-rising : (more p r : ℕ) → Rising (count bs) p (trail more bs p r)
   trail-rising zero p r = end-rising (count bs) p r
   trail-rising (suc more) p r =
-      cond-both (ltb p r && leb r (count bs)) _ _ (Rising (count bs) p)
-      (λ t. let b = and-parts (ltb p r) (leb r (count bs)) t in
+      cond-both (follows p r (count bs)) _ _ (Rising (count bs) p)
+      (λ t. let b = and-parts _ _ t in
       (ltb-true p r (b .0), leb-true r (count bs) (b .1), trail-rising more r (recordAt bs r .link)))
       (λ t. end-rising (count bs) p r)
 

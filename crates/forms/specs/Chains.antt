@@ -43,6 +43,14 @@ pub data Trail : Type 0 where
   Ended : Trail
   Broken : Trail
 
+-- the link r of record p is followed, where there are m records: only upward, so that a walk ends
+abbrev pub Follows : ℕ → ℕ → ℕ → Type 0
+Follows p r m = (p < r) × (r ≤ m)
+
+-- the same, as a test
+abbrev pub follows : ℕ → ℕ → ℕ → Bool
+follows p r m = ltb p r && leb r m
+
 -- how a walk ends at link r
 abbrev pub ending : ℕ → Trail
 ending r = cond (eqb r 0) Ended Broken
@@ -50,7 +58,7 @@ ending r = cond (eqb r 0) Ended Broken
 -- the walk from link r, which record p holds, or a head where p is 0; `more` bounds the records still to be read
 abbrev pub trail : ℕ → List ℕ → ℕ → ℕ → Trail
 trail zero bs p r = ending r
-trail (suc more) bs p r = cond (ltb p r && leb r (count bs)) (Read r (trail more bs r (recordAt bs r .link))) (ending r)
+trail (suc more) bs p r = cond (follows p r (count bs)) (Read r (trail more bs r (recordAt bs r .link))) (ending r)
 
 -- the walk of state s, from its head
 abbrev pub walk : List ℕ → ℕ → Trail

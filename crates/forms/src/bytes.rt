@@ -1,4 +1,4 @@
-// 16-bit numbers in bytes.
+//! 16-bit numbers in bytes.
 ghost use mathlib.Core.Path.{_≡_};
 ghost use Prim.Native.Nat.{_+_, _*_, _<_};
 ghost use lib.ListN.{length};

@@ -1,10 +1,11 @@
-// Reading a chain.
+//! Reading a chain.
 ghost use mathlib.Core.Path.{_≡_};
 ghost use Prim.Native.Nat.{_+_, _*_, _<_, _≤_};
 ghost use lib.ListN.{length};
+ghost use Rattle.std.specs.Orderings.{When};
 ghost use Rattle.std.specs.Of.Vec.{vec-items};
 ghost use Rattle.forms.specs.Bytes.{states, inputs, count};
-ghost use Rattle.forms.specs.Chains.{recordAt, covers, recordCell, walk, given, WalksRise};
+ghost use Rattle.forms.specs.Chains.{recordAt, Follows, covers, recordCell, walk, given, WalksRise};
 ghost use Rattle.forms.specs.Forms.{chainOf};
 use crate::Chain;
 use crate::bytes::number_at;
@@ -17,7 +18,7 @@ use machine::StoredFault;
 use machine::faults::StoredFaultFault;
 use machine::outputs::CommandOutput;
 
-// A record serves the inputs `from` to `to`; `link` is the next record of its state, or 0.
+/// A record serves the inputs `from` to `to`; `link` is the next record of its state, or 0.
 #[derive(Clone, Copy)]
 struct Record {
     from: u16,
@@ -60,17 +61,17 @@ pub impl Machine for Chain as ChainMachine {
     }
 }
 
-// The first record on the state's walk that serves the input gives the cell. A link is followed only upward, so that
-// the walk ends.
+/// The first record on the state's walk that serves the input gives the cell. A link is followed only upward, so that
+/// the walk ends.
 fn walked(bytes: &[u8], state: u16, input: u16) -> Result<Cell<Command>, StoredFault>
     requires whole { ⌜ length (now bytes) ≡ 2 * (4 + states (now bytes) + 5 * count (now bytes)) ⌝ }
     requires below { ⌜ state < states (now bytes) ⌝ }
     ensures { λ r. ⌜ r ≡ given (now (bytes .entry)) state input 0 (walk (now (bytes .entry)) state) ⌝ }
 {
-    let count = number_at(bytes, 3);
+    let records = number_at(bytes, 3);
     let mut last = 0;
     let mut link = number_at(bytes, 4 + state as usize);
-    while last < link && link <= count {
+    'walk: while goes_on(last, link, records) {
         let record = record_at(bytes, link);
         if record.covers(input) {
             return cell_of(number_at(bytes, 0), state, input, link, record);
@@ -85,6 +86,13 @@ fn walked(bytes: &[u8], state: u16, input: u16) -> Result<Cell<Command>, StoredF
         input,
         place: last as usize,
     })
+}
+
+/// Whether a walk goes on: a link is followed upward, to a record.
+fn goes_on(last: u16, link: u16, records: u16) -> bool
+    ensures { λ r. ⌜ When r (Follows last link records) (Follows last link records → ⊥) ⌝ }
+{
+    last < link && link <= records
 }
 
 fn record_at(bytes: &[u8], at: u16) -> Record
@@ -103,7 +111,7 @@ fn record_at(bytes: &[u8], at: u16) -> Record
     }
 }
 
-// The cell of the record numbered `at`, if it leads to one of the states.
+/// The cell of the record numbered `at`, if it leads to one of the states.
 fn cell_of(
     states: u16,
     state: u16,
@@ -129,7 +137,7 @@ fn cell_of(
     })
 }
 
-// Each record that a walk reads is above the one before, so that no walk comes back to a record.
+/// Each record that a walk reads is above the one before, so that no walk comes back to a record.
 pub fn walks_rise()
     ensures { λ _. ⌜ WalksRise ⌝ }
 {}

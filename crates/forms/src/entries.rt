@@ -1,4 +1,4 @@
-// What the entries of all stored forms share.
+//! What the entries of all stored forms share.
 ghost use mathlib.Core.Path.{_≡_};
 ghost use Rattle.forms.specs.Entries.{fault, boundsTest};
 use machine::Cause;

@@ -1,4 +1,4 @@
-// Reading a grid.
+//! Reading a grid.
 ghost use mathlib.Core.Path.{_≡_};
 ghost use Prim.Native.Nat.{_<_};
 ghost use Rattle.std.specs.Finite.{nth};
@@ -15,7 +15,7 @@ use machine::Output;
 use machine::StoredFault;
 use machine::faults::StoredFaultFault;
 
-// The next state of a blank cell.
+/// The next state of a blank cell.
 pub const BLANK: u16 = 65535;
 
 pub impl<O: Output> Machine for Grid<O> as GridMachine {
@@ -51,7 +51,7 @@ pub impl<O: Output> Machine for Grid<O> as GridMachine {
     }
 }
 
-// The cell that a next state and an output make, if they make one.
+/// The cell that a next state and an output make, if they make one.
 fn stored<O: Output>(
     states: u16,
     state: u16,
@@ -77,7 +77,7 @@ fn stored<O: Output>(
     })
 }
 
-// The value at a place of a list.
+/// The value at a place of a list.
 fn item<O: Copy>(list: &Vec<O>, place: usize) -> O
     requires { ⌜ place < vec-len (now list) ⌝ }
     ensures { λ r. ⌜ nth (vec-items (now (list .entry))) place ≡ Some r ⌝ }

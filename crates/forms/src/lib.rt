@@ -1,11 +1,11 @@
-// The stored forms of a machine: a ring, a grid and a chain.
+//! The stored forms of a machine: a ring, a grid and a chain.
 ghost use mathlib.Core.Path.{_≡_};
 ghost use Prim.Native.Nat.{_+_, _*_, _<_, _≤_};
 ghost use Rattle.std.specs.Of.Vec.{vec-items, vec-len};
 ghost use Rattle.forms.specs.Bytes.{states, inputs, start, count};
 pub use crate::openings::OpenRefusal;
 
-// States around a circle, with no table: one key goes forward, one back, one stays.
+/// States around a circle, with no table: one key goes forward, one back, one stays.
 #[derive(Clone, Copy)]
 pub struct Ring {
     size: u16,
@@ -13,7 +13,7 @@ pub struct Ring {
     ghost few: { size ≤ 128 },
 }
 
-// A full table: for each state and input a next state and an output.
+/// A full table: for each state and input a next state and an output.
 #[derive(Drop)]
 pub struct Grid<O> {
     states: u16,
@@ -30,7 +30,7 @@ pub struct Grid<O> {
     ghost output_length: { vec-len outputs ≡ states * inputs },
 }
 
-// Bytes in which each state has a chain of records, and each record serves a range of inputs.
+/// Bytes in which each state has a chain of records, and each record serves a range of inputs.
 #[derive(Drop)]
 pub struct Chain {
     bytes: Vec<u8>,

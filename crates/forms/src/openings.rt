@@ -1,4 +1,4 @@
-// Opening the stored forms: each is made here or refused.
+//! Opening the stored forms: each is made here or refused.
 ghost use mathlib.Core.Path.{_≡_};
 ghost use Rattle.std.specs.Results.{mapped};
 ghost use Rattle.forms.specs.Openings.{openNumber, sizeTest};
@@ -16,23 +16,23 @@ use machine::MOST_INPUTS;
 use machine::MOST_STATES;
 use machine::Output;
 
-// The most records of a chain.
+/// The most records of a chain.
 pub const MOST_RECORDS: u16 = 4096;
 
 #[derive(Clone, Copy, PartialEq, Eq, Debug)]
 pub enum OpenRefusal {
-    // states or inputs outside the panel's limits
+    /// states or inputs outside the panel's limits
     Size = 10,
-    // the start is no state
+    /// the start is no state
     Start = 11,
-    // the list of next states, or that of outputs, has not one place for each cell
+    /// the list of next states, or that of outputs, has not one place for each cell
     NextLength = 12,
     OutputLength = 13,
-    // too few bytes for the numbers in front
+    /// too few bytes for the numbers in front
     Front = 20,
-    // too many records
+    /// too many records
     Records = 21,
-    // not the length that the numbers in front ask for
+    /// not the length that the numbers in front ask for
     Length = 22,
 }
 
@@ -44,7 +44,7 @@ impl OpenRefusal {
     }
 }
 
-// The sizes and the start, tested alike for every form.
+/// The sizes and the start, tested alike for every form.
 fn test_sizes(states: u16, inputs: u16, start: u16) -> Result<(), OpenRefusal>
     ensures { λ r. ⌜ r ≡ sizeTest states inputs start ⌝ }
 {

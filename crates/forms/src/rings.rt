@@ -1,4 +1,4 @@
-// The ring.
+//! The ring.
 ghost use Rattle.forms.specs.Forms.{ringOf};
 use crate::Ring;
 use crate::entries::test_bounds;
@@ -9,7 +9,7 @@ use machine::StoredFault;
 use machine::faults::StoredFaultFault;
 use machine::outputs::CommandOutput;
 
-// The keys of a ring.
+/// The keys of a ring.
 pub const FORWARD: u16 = 0;
 
 pub const BACK: u16 = 1;

@@ -1,4 +1,4 @@
-// Whether a machine has every cell that it should.
+//! Whether a machine has every cell that it should.
 ghost use mathlib.Core.Path.{_≡_};
 ghost use mathlib.Core.Bool.{true};
 ghost use Rattle.std.specs.Orderings.{Decides};
@@ -9,9 +9,9 @@ use crate::Machine;
 
 #[derive(Clone, Copy, PartialEq, Eq, Debug, Drop)]
 pub enum CheckRefusal<F> {
-    // with the fault of the entry at state 0 and input 0
+    /// with the fault of the entry at state 0 and input 0
     Misfit(F),
-    // the first cell, states rising and inputs rising, that is not filled
+    /// the first cell, states rising and inputs rising, that is not filled
     Hole { state: u16, input: u16, fault: F },
 }
 
@@ -26,7 +26,7 @@ impl<F> CheckRefusal<F> {
     }
 }
 
-// Accepts exactly the sound machines: those that are no misfit and have every cell.
+/// Accepts exactly the sound machines: those that are no misfit and have every cell.
 pub fn check<M: Machine>(machine: &M) -> Result<(), CheckRefusal<M::Fault>>
     ensures accepts { λ r. ⌜ Decides (isOk r) (Sound (M·Machine .means (now (machine .entry)))) ⌝ }
     ensures answer { λ r. ⌜ Checked (M·Machine .means (now (machine .entry))) r ⌝ }

@@ -1,18 +1,24 @@
-// Why an entry is no cell.
+//! Why an entry is no cell.
 ghost use mathlib.Core.Path.{_≡_};
 ghost use Rattle.machine.specs.declared.faults.Cause.{Cause};
 ghost use Rattle.std.specs.declared.option.Option.the-variants.{Some};
 ghost use Rattle.machine.specs.Causes.{causeNumber, causeText, faultText};
 use std::fmt;
 
-// The six causes, numbered as people know them.
+/// The six causes, numbered as people know them.
 #[derive(Clone, Copy, PartialEq, Eq, Debug)]
 pub enum Cause {
+    /// the state is not below the count of states
     State = 1,
+    /// the input is not below the count of inputs
     Input = 2,
+    /// nothing is stored for the cell
     Blank = 3,
+    /// a next state is stored that is no state
     Next = 4,
+    /// a link leads nowhere
     Link = 5,
+    /// the machine is a misfit: its parts do not go together
     Misfit = 6,
 }
 
@@ -46,7 +52,7 @@ pub impl fmt::Display for Cause as CauseDisplay {
     }
 }
 
-// What a fault of any machine can be asked: the cause at its bottom, however many layers carry it.
+/// What a fault of any machine can be asked: the cause at its bottom, however many layers carry it.
 pub trait Fault: Drop {
     ghost root: { Self → Cause };
 
@@ -54,7 +60,7 @@ pub trait Fault: Drop {
         ensures { λ r. ⌜ r ≡ root (now (self .entry)) ⌝ };
 }
 
-// A fault of a stored form. The place says where in the form's own store; each form says what it counts.
+/// A fault of a stored form. The place says where in the form's own store; each form says what it counts.
 #[derive(Clone, Copy, PartialEq, Eq, Debug)]
 pub struct StoredFault {
     pub cause: Cause,

@@ -1,4 +1,4 @@
-// A machine: what it answers, what that means, and what every machine owes.
+//! A machine: what it answers, what that means, and what every machine owes.
 ghost use mathlib.Core.Path.{_≡_};
 ghost use Rattle.machine.specs.Meaning.{Meaning, Sizes, Inside, Closed};
 pub use crate::checks::CheckRefusal;
@@ -10,19 +10,19 @@ pub use crate::outputs::Command;
 pub use crate::outputs::Output;
 pub use crate::outputs::WheelMove;
 
-// What the panel can hold.
+/// What the panel can hold.
 pub const MOST_STATES: u16 = 128;
 
 pub const MOST_INPUTS: u16 = 32;
 
-// One entry of a state table: where the panel goes, and what it puts out.
+/// One entry of a state table: where the panel goes, and what it puts out.
 #[derive(Clone, Copy, PartialEq, Eq, Debug)]
 pub struct Cell<O> {
     pub next: u16,
     pub output: O,
 }
 
-// A state table that can be asked. The same question always has the same answer, and asking changes nothing.
+/// A state table that can be asked. The same question always has the same answer, and asking changes nothing.
 pub trait Machine {
     type Out: Output;
 
@@ -45,7 +45,7 @@ pub trait Machine {
     fn start(&self) -> u16
         ensures { λ r. ⌜ r ≡ means (now (self .entry)) .start ⌝ };
 
-    // The cell of a state at an input, or why there is none.
+    /// The cell of a state at an input, or why there is none.
     fn entry(&self, state: u16, input: u16) -> Result<Cell<Self::Out>, Self::Fault>
         ensures { λ r. ⌜ r ≡ means (now (self .entry)) .entry state input ⌝ };
 }

@@ -1,11 +1,11 @@
-// Output kinds: what a cell can put out, and when two outputs are alike.
+//! Output kinds: what a cell can put out, and when two outputs are alike.
 ghost use mathlib.Core.Path.{_≡_};
 ghost use mathlib.Core.List.{List, [], _∷_};
 ghost use lib.IntN.{ℤ, pos};
 ghost use Rattle.std.specs.Orderings.{Decides};
 ghost use Rattle.machine.specs.Wheels.{hundredths, Nearest, Carried, wheelKey};
 
-// A kind gives each value a key; two values are alike exactly when their keys are equal.
+/// A kind gives each value a key; two values are alike exactly when their keys are equal.
 pub trait Output: Copy {
     ghost key: { Self → List ℤ };
 
@@ -13,7 +13,7 @@ pub trait Output: Copy {
         ensures { λ r. ⌜ Decides r (key (now (self .entry)) ≡ key (now (other .entry))) ⌝ };
 }
 
-// A command to the renderer, known by its number.
+/// A command to the renderer, known by its number.
 #[derive(Clone, Copy, PartialEq, Eq, Debug)]
 pub struct Command {
     pub number: u16,
@@ -27,7 +27,7 @@ pub impl Output for Command as CommandOutput {
     }
 }
 
-// A move of the three grading wheels, in thousandths.
+/// A move of the three grading wheels, in thousandths.
 #[derive(Clone, Copy, PartialEq, Eq, Debug)]
 pub struct WheelMove {
     pub lift: i16,
@@ -45,7 +45,7 @@ pub impl Output for WheelMove as WheelMoveOutput {
     }
 }
 
-// An offset in thousandths as the renderer shows it: the nearest hundredth, and a half goes away from zero.
+/// An offset in thousandths as the renderer shows it: the nearest hundredth, and a half goes away from zero.
 pub fn to_hundredths(offset: i16) -> i16
     ensures value { λ r. ⌜ r ≡ hundredths offset ⌝ }
     ensures nearest { λ r. ⌜ Nearest offset r ⌝ }
@@ -53,7 +53,7 @@ pub fn to_hundredths(offset: i16) -> i16
     offset / 10 + carry(offset % 10)
 }
 
-// What a remainder by ten adds to the quotient.
+/// What a remainder by ten adds to the quotient.
 fn carry(rest: i16) -> i16
     ensures { λ r. ⌜ Carried rest r ⌝ }
 {
@@ -66,7 +66,7 @@ fn carry(rest: i16) -> i16
     }
 }
 
-// Whether the renderer shows two offsets as the same.
+/// Whether the renderer shows two offsets as the same.
 fn same_step(a: i16, b: i16) -> bool
     ensures { λ r. ⌜ Decides r (hundredths a ≡ hundredths b) ⌝ }
 {

@@ -1,4 +1,4 @@
-// Reads a chain from standard input and prints its report; a refusal ends the process with status 1.
+//! Reads a chain from standard input and prints its report; a refusal ends the process with status 1.
 use reports::Report;
 use std::error::AnyError;
 use std::io::Read;

@@ -1,4 +1,4 @@
-// What `reduce` says of a chain.
+//! What `reduce` says of a chain.
 ghost use mathlib.Core.Path.{_≡_};
 ghost use Rattle.std.specs.Of.String.{string-bytes};
 ghost use Rattle.std.specs.Of.Vec.{vec-items};
@@ -15,7 +15,7 @@ use machine::check;
 use std::alloc::AllocError;
 use std::alloc::Global;
 
-// The lines to print, and whether the machine was accepted.
+/// The lines to print, and whether the machine was accepted.
 #[derive(Drop)]
 pub struct Report {
     pub text: String,
@@ -23,7 +23,7 @@ pub struct Report {
 }
 
 impl Report {
-    // Opens the bytes as a chain and checks it.
+    /// Opens the bytes as a chain and checks it.
     pub fn of_bytes(heap: Global, bytes: Vec<u8>) -> Result<Report, AllocError>
         ensures { λ r. ⌜ made r (λ x. Reported (chainOpening (vec-items bytes)) (string-bytes (x .text)) (x .accepted)) ⌝ }
     {
@@ -51,14 +51,14 @@ impl Report {
     }
 }
 
-// A refusal with nothing but its number.
+/// A refusal with nothing but its number.
 fn refused_text(heap: Global, number: u8) -> Result<String, AllocError>
     ensures { λ r. ⌜ made r (λ x. string-bytes x ≡ refusedText number) ⌝ }
 {
     format!(heap, "refused {number}\n")
 }
 
-// What is said of a check's answer. An opened chain is never a misfit, but the text covers every answer.
+/// What is said of a check's answer. An opened chain is never a misfit, but the text covers every answer.
 fn check_text(
     heap: Global,
     chain: &Chain,

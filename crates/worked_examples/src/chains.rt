@@ -1,85 +1,30 @@
-// A chain of six states, and what becomes of it when one of its numbers is another.
+//! A chain of six states, and what becomes of it when one of its numbers is another.
 use reports::Report;
 use std::alloc::Global;
 use std::test::Fail;
 use std::test::check;
 use std::test::check_eq;
 
-// The numbers in front, six heads, and twelve records: from, to, next, output, link.
-const SIX_STATES: [u16; 70] = [
-    6,
-    2,
-    0,
-    12,
-    1,
-    3,
-    5,
-    7,
-    9,
-    11,
-    0,
-    0,
-    4,
-    0,
-    2,
-    1,
-    1,
-    5,
-    0,
-    0,
-    0,
-    0,
-    3,
-    0,
-    4,
-    1,
-    1,
-    2,
-    0,
-    0,
-    0,
-    0,
-    0,
-    1,
-    6,
-    1,
-    1,
-    1,
-    0,
-    0,
-    0,
-    0,
-    1,
-    0,
-    8,
-    1,
-    1,
-    5,
-    0,
-    0,
-    0,
-    0,
-    0,
-    0,
-    10,
-    1,
-    1,
-    2,
-    0,
-    0,
-    0,
-    0,
-    2,
-    1,
-    12,
-    1,
-    1,
-    0,
-    0,
-    0,
+/// The numbers in front, and six heads.
+const FRONT: [u16; 10] = [6, 2, 0, 12, 1, 3, 5, 7, 9, 11];
+
+/// The records: from, to, next, output, link.
+const RECORDS: [[u16; 5]; 12] = [
+    [0, 0, 4, 0, 2],
+    [1, 1, 5, 0, 0],
+    [0, 0, 3, 0, 4],
+    [1, 1, 2, 0, 0],
+    [0, 0, 0, 1, 6],
+    [1, 1, 1, 0, 0],
+    [0, 0, 1, 0, 8],
+    [1, 1, 5, 0, 0],
+    [0, 0, 0, 0, 10],
+    [1, 1, 2, 0, 0],
+    [0, 0, 2, 1, 12],
+    [1, 1, 0, 0, 0],
 ];
 
-// Which place gets which number, and what is said then.
+/// Which place gets which number, and what is said then.
 const CHANGES: [(usize, u16, &str); 17] = [
     (0, 6, "states 6 inputs 2 start 0\n"),
     (2, 5, "states 6 inputs 2 start 5\n"),
@@ -100,13 +45,29 @@ const CHANGES: [(usize, u16, &str); 17] = [
     (27, 65535, "refused 2 state 1 input 1 cause 4 record 4\n"),
 ];
 
+/// The chain's bytes with another number at a place.
 fn changed(heap: Global, place: usize, number: u16) -> Result<Vec<u8>, Fail> {
     let mut bytes = Vec::new(heap);
-    for (i, old) in SIX_STATES.iter().enumerate() {
-        let n = if i == place { number } else { *old };
-        bytes.extend_from_slice(&n.to_le_bytes())?;
+    for old in FRONT {
+        add(&mut bytes, old, place, number)?;
+    }
+    for record in RECORDS {
+        for old in record {
+            add(&mut bytes, old, place, number)?;
+        }
     }
     Ok(bytes)
+}
+
+/// Adds the next number of a chain, or the other one at its place.
+fn add(bytes: &mut Vec<u8>, old: u16, place: usize, number: u16) -> Result<(), Fail> {
+    let n = if bytes.len() / 2 == place {
+        number
+    } else {
+        old
+    };
+    bytes.extend_from_slice(&n.to_le_bytes())?;
+    Ok(())
 }
 
 #[test]

@@ -1,4 +1,4 @@
-// Offsets and keys, rings, and grids.
+//! Offsets and keys, rings, and grids.
 use forms::Grid;
 use forms::OpenRefusal;
 use forms::Ring;
@@ -124,7 +124,7 @@ fn rings_have_1_to_128_states() -> Result<(), Fail> {
     check_eq(Ring::open(129).err(), Some(OpenRefusal::Size))
 }
 
-// A grid with one input and two next states.
+/// A grid with one input and two next states.
 fn grid(
     heap: Global,
     states: u16,

@@ -1,4 +1,4 @@
-// Worked examples of machines, stored forms and reports, run as tests.
+//! Worked examples of machines, stored forms and reports, run as tests.
 #[cfg(test)]
 mod chains;
 #[cfg(test)]

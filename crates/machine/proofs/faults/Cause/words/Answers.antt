@@ -13,9 +13,3 @@ returns-in-Blank c = sym (ap causeText (c .in-Blank .is))
 
 pub returns-in-Next : need.returns-in-Next
 returns-in-Next c = sym (ap causeText (c .in-Next .is))
-
-pub returns-in-Link : need.returns-in-Link
-returns-in-Link c = sym (ap causeText (c .in-Link .is))
-
-pub returns-in-Misfit : need.returns-in-Misfit
-returns-in-Misfit c = sym (ap causeText (c .in-Misfit .is))

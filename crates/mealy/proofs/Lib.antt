@@ -1,0 +1,14 @@
+pub mod Below
+pub mod Counts
+pub mod Keys
+pub mod Share
+pub mod Telling
+pub mod Words
+pub mod Numbers
+pub mod Rounds
+pub mod Settled
+pub mod FirstWord
+pub mod Parting
+pub mod Pigeonhole
+pub mod Reduced
+pub mod Worked

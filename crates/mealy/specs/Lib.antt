@@ -1,0 +1,13 @@
+pub mod Mealy
+pub mod Words
+pub mod Below
+pub mod Keys
+pub mod Partitions
+pub mod FirstWord
+pub mod Reduced
+pub mod BlocksAndWords
+pub mod Numbering
+pub mod Settling
+pub mod ShortestWords
+pub mod SmallestMachine
+pub mod WorkedExample
