@@ -9,8 +9,12 @@ use Rattle.std.specs.declared.result.Result.{Result}
 use Rattle.std.specs.declared.result.Result.the-variants.{Ok, Err}
 use Rattle.forms.specs.Entries.{boundsTest}
 
+-- what the bounds let pass lies within them, and what lies within them they let pass
 pub bounds-pass : (n k s i : ℕ) → Ok tt ≡ boundsTest n k s i → (s < n) × (i < k)
 bounds-pass n k s i h = (grind (arith, tells), grind (arith, tells))
+
+pub in-bounds : (n k s i : ℕ) → s < n → i < k → Ok tt ≡ boundsTest n k s i
+in-bounds n k s i h l = grind (arith, tells)
 
 -- the place of the cell, where a state has k places
 pub bounds-place : (n k s i : ℕ) → Ok tt ≡ boundsTest n k s i → s * k + i < n * k

@@ -13,17 +13,13 @@ pub(crate) fn test_bounds(
 ) -> Result<(), StoredFault>
     ensures { λ r. ⌜ r ≡ boundsTest states inputs state input ⌝ }
 {
-    let cause = if state >= states {
-        Cause::State
-    } else if input >= inputs {
-        Cause::Input
-    } else {
-        return Ok(());
-    };
-    Err(StoredFault {
-        cause,
-        state,
-        input,
-        place: 0,
-    })
+    match Cause::of_range(states, inputs, state, input) {
+        Some(cause) => Err(StoredFault {
+            cause,
+            state,
+            input,
+            place: 0,
+        }),
+        None => Ok(()),
+    }
 }

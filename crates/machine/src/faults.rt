@@ -2,7 +2,7 @@
 ghost use mathlib.Core.Path.{_≡_};
 ghost use Rattle.machine.specs.declared.faults.Cause.{Cause};
 ghost use Rattle.std.specs.declared.option.Option.the-variants.{Some};
-ghost use Rattle.machine.specs.Causes.{causeNumber, causeText, faultText};
+ghost use Rattle.machine.specs.Causes.{causeNumber, causeText, faultText, rangeCause};
 use std::fmt;
 
 /// The six causes, numbered as people know them.
@@ -27,6 +27,19 @@ impl Cause {
         ensures { λ r. ⌜ r ≡ causeNumber self ⌝ }
     {
         self as u8
+    }
+
+    /// Cause 1 or 2, where a state or an input is not below its count; the state comes first.
+    pub fn of_range(states: u16, inputs: u16, state: u16, input: u16) -> Option<Cause>
+        ensures { λ r. ⌜ r ≡ rangeCause states inputs state input ⌝ }
+    {
+        if state >= states {
+            Some(Cause::State)
+        } else if input >= inputs {
+            Some(Cause::Input)
+        } else {
+            None
+        }
     }
 
     pub fn words(self) -> &'static str

@@ -1,0 +1,5 @@
+pub mod Besides
+pub mod Faults
+pub mod Keymaps
+pub mod Layers
+pub mod Trains

@@ -1,0 +1,9 @@
+pub mod Counts
+pub mod Fewest
+pub mod Finish
+pub mod Kept
+pub mod OneForms
+pub mod Puts
+pub mod RunSteps
+pub mod Tiles
+pub mod Trips
