@@ -27,6 +27,9 @@ use machine::faults::StoredFaultPartialEq;
 use machine::outputs::CommandDebug;
 use machine::outputs::CommandOutput;
 use machine::outputs::CommandPartialEq;
+use six_states::CELLS;
+use six_states::FRONT;
+use six_states::RECORDS;
 use std::alloc::Global;
 use std::test::Fail;
 use std::test::check_eq;
@@ -38,22 +41,6 @@ use writing::normalised;
 use writing::write_chain;
 use writing::writes::WriteRefusalDebug;
 use writing::writes::WriteRefusalPartialEq;
-
-/// The next states and commands of six states with two inputs.
-const SIX_STATES: [(u16, u16); 12] = [
-    (4, 0),
-    (5, 0),
-    (3, 0),
-    (2, 0),
-    (0, 1),
-    (1, 0),
-    (1, 0),
-    (5, 0),
-    (0, 0),
-    (2, 0),
-    (2, 1),
-    (0, 0),
-];
 
 fn grid(
     heap: Global,
@@ -160,24 +147,9 @@ fn equal_cells_share_a_record(rt: LibcRuntime) -> Result<(), Fail> {
 #[test]
 fn six_states_take_140_bytes(rt: LibcRuntime) -> Result<(), Fail> {
     let heap = rt.alloc();
-    let front = [6, 2, 0, 12, 1, 3, 5, 7, 9, 11];
-    let records = [
-        [0, 0, 4, 0, 2],
-        [1, 1, 5, 0, 0],
-        [0, 0, 3, 0, 4],
-        [1, 1, 2, 0, 0],
-        [0, 0, 0, 1, 6],
-        [1, 1, 1, 0, 0],
-        [0, 0, 1, 0, 8],
-        [1, 1, 5, 0, 0],
-        [0, 0, 0, 0, 10],
-        [1, 1, 2, 0, 0],
-        [0, 0, 2, 1, 12],
-        [1, 1, 0, 0, 0],
-    ];
     goes_round(
-        &grid(heap, 6, 2, &SIX_STATES)?,
-        bytes_of(heap, &front, &records)?,
+        &grid(heap, 6, 2, &CELLS)?,
+        bytes_of(heap, &FRONT, &RECORDS)?,
     )
 }
 
@@ -185,7 +157,7 @@ fn six_states_take_140_bytes(rt: LibcRuntime) -> Result<(), Fail> {
 fn a_refusal_changes_no_byte(rt: LibcRuntime) -> Result<(), Fail> {
     let heap = rt.alloc();
     let mut out = [7u8; 139];
-    let short = write_chain(&grid(heap, 6, 2, &SIX_STATES)?, &mut out);
+    let short = write_chain(&grid(heap, 6, 2, &CELLS)?, &mut out);
     check_eq(short, Err(WriteRefusal::Short { needed: 140 }))?;
     let fault = StoredFault {
         cause: Cause::Blank,

@@ -1,28 +1,11 @@
 //! A chain of six states, and what becomes of it when one of its numbers is another.
 use reports::Report;
+use six_states::FRONT;
+use six_states::RECORDS;
 use std::alloc::Global;
 use std::test::Fail;
 use std::test::check;
 use std::test::check_eq;
-
-/// The numbers in front, and six heads.
-const FRONT: [u16; 10] = [6, 2, 0, 12, 1, 3, 5, 7, 9, 11];
-
-/// The records: from, to, next, output, link.
-const RECORDS: [[u16; 5]; 12] = [
-    [0, 0, 4, 0, 2],
-    [1, 1, 5, 0, 0],
-    [0, 0, 3, 0, 4],
-    [1, 1, 2, 0, 0],
-    [0, 0, 0, 1, 6],
-    [1, 1, 1, 0, 0],
-    [0, 0, 1, 0, 8],
-    [1, 1, 5, 0, 0],
-    [0, 0, 0, 0, 10],
-    [1, 1, 2, 0, 0],
-    [0, 0, 2, 1, 12],
-    [1, 1, 0, 0, 0],
-];
 
 /// Which place gets which number, and what is said then.
 const CHANGES: [(usize, u16, &str); 17] = [
