@@ -1,4 +1,5 @@
 pub mod Causes
 pub mod Checks
 pub mod Meaning
+pub mod Theory
 pub mod Wheels

@@ -28,12 +28,16 @@ pub trait Machine {
 
     type Fault: Fault;
 
+    // what the four questions are answered by
     ghost means: { Self → Meaning Self·Out Self·Fault };
 
+    // within the panel's limits, or a misfit
     law sizes: { (m : Self) → Sizes (means m) };
 
+    // cells only below the counts
     law inside: { (m : Self) → Inside (means m) };
 
+    // which lead to states
     law closed: { (m : Self) → Closed (means m) };
 
     fn states(&self) -> u16

@@ -48,7 +48,7 @@ module _ (m : Mealy) (closed : Closed m) (j : ℕ) (e : Settled m j) where
       cc (both .0, after, tail)
 
   -- So it is equivalent to its block.
-  block-equivalent : (s : ℕ) → s < m .states → Equivalent m (reduced m j) s (block m j s)
+  pub block-equivalent : (s : ℕ) → s < m .states → Equivalent m (reduced m j) s (block m j s)
   block-equivalent s h = answers-equivalent m (reduced m j) s (block m j s) (block-answers s h)
 
   -- And the lowest state of block c to c.

@@ -1,0 +1,4 @@
+pub mod Entries
+pub mod Right
+pub mod Runs
+pub mod Lines

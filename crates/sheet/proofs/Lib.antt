@@ -1,0 +1,8 @@
+pub mod Rows
+pub mod Keeping
+pub mod Answering
+pub mod Copying
+pub mod Spelling
+pub mod Tabling
+pub mod LastRound
+pub mod Meaning
