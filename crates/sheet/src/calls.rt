@@ -85,7 +85,8 @@ impl<M: Machine> Sheet<M> {
         if !self.sound {
             return Err(Refusal::Unsound);
         }
-        if self.settled {
+        let over = self.settled;
+        if over {
             return Err(Refusal::AlreadySettled);
         }
         Ok(self.advance())

@@ -3,6 +3,7 @@ use forms::Grid;
 use forms::grids::GridMachine;
 use forms::openings::OpenRefusalDebug;
 use machine::Command;
+use machine::Machine;
 use machine::outputs::CommandDebug;
 use machine::outputs::CommandOutput;
 use machine::outputs::CommandPartialEq;
@@ -27,6 +28,7 @@ use sheet::answers::TablePartialEq;
 use std::alloc::Global;
 use std::test::Fail;
 use std::test::check_eq;
+use tables::open_table;
 
 /// Next states and commands, for inputs 0 and 1 of each state.
 fn six_states(heap: Global) -> Result<Grid<Command>, Fail> {
@@ -135,4 +137,18 @@ fn a_log_keeps_refusals_and_buffers(rt: LibcRuntime) -> Result<(), Fail> {
         }
     }
     Ok(())
+}
+
+#[test]
+fn its_table_opens_as_a_grid(rt: LibcRuntime) -> Result<(), Fail> {
+    let heap = rt.alloc();
+    let mut sheet = Sheet::open(six_states(heap)?);
+    sheet.settle()?;
+    let mut next = vec![in heap; 9u16; 12]?;
+    let mut outputs = vec![in heap; Command { number: 9 }; 12]?;
+    let table = sheet.table(&mut next, &mut outputs)?;
+    let grid = open_table(table, 2, next, outputs)?;
+    check_eq(grid.states(), 4)?;
+    let again = Sheet::open(grid).settle()?;
+    check_eq(again.count, 4)
 }

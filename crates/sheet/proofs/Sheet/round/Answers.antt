@@ -21,8 +21,8 @@ returns-then-not-self g c =
       means = λ k. tt;
     }
 
-pub returns-then-self : need.returns-then-self
-returns-then-self g c =
+pub returns-then-over : need.returns-then-over
+returns-then-over g c =
     let a = c .args .self .now in
     let t : Stage = stageAt (g .Out·Output .key) (g .M·Machine .means (a .machine)) (a .rounds) (a .settled) in
     record {
@@ -30,7 +30,7 @@ returns-then-self g c =
       refused = refl;
       stage = refl;
       kept = λ k. k;
-      answer = λ k. over t _ (c .if-self .taken) ∙ heard t _ (sym (k .sounds) ∙ c .if-not-self .left);
+      answer = λ k. over t _ (c .if-over .taken) ∙ heard t _ (sym (k .sounds) ∙ c .if-not-self .left);
       means = λ k. tt;
     }
 
@@ -41,12 +41,12 @@ returns g c =
     let m = g .M·Machine .means (a .machine) in
     let t : Stage = stageAt key m (a .rounds) (a .settled) in
     let answer : Kept (g .M·Machine) (g .Out·Output) a → Ok (c .advance .result) ≡ roundReply t = λ k.
-    c .advance .ensures .answer k (c .if-not-self .left) (c .if-self .left) in
+    c .advance .ensures .answer k (c .if-not-self .left) (c .if-over .left) in
     record {
       same = c .advance .ensures .same;
       refused = tt;
       stage = c .advance .ensures .stage;
-      kept = λ k. c .advance .ensures .kept k (c .if-not-self .left) (c .if-self .left);
+      kept = λ k. c .advance .ensures .kept k (c .if-not-self .left) (c .if-over .left);
       answer = answer;
       means = λ k. round-means t (known-of key m (g .M·Machine·met .sizes (a .machine)) (g .M·Machine·met .closed (a .machine)) a k) _ (answer k);
     }
