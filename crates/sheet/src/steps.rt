@@ -12,14 +12,14 @@ use machine::Output;
 use rounds::first_input;
 
 /// The rows of a fresh sheet.
-pub fn blank() -> [[u8; 128]; 128]
+pub(crate) fn blank() -> [[u8; 128]; 128]
     ensures { λ r. ⌜ r ≡ replicate 128 (replicate 128 0) ⌝ }
 {
     [[0; 128]; 128]
 }
 
 /// Writes the first n numbers of a row into the first n places.
-pub fn copy_front(row: &[u8; 128], n: usize, out: &mut [u16])
+pub(crate) fn copy_front(row: &[u8; 128], n: usize, out: &mut [u16])
     requires { ⌜ (n ≤ 128) × (n ≤ length (now out)) ⌝ }
     ensures { λ _. ⌜ now (out .exit) ≡ take n (now (row .entry)) ++ drop n (now (out .entry)) ⌝ }
 {
@@ -29,7 +29,7 @@ pub fn copy_front(row: &[u8; 128], n: usize, out: &mut [u16])
 }
 
 /// The first of the rows up to the last in which two places differ, or one past the last.
-pub fn first_apart(rows: &[[u8; 128]; 128], last: usize, s: usize, t: usize) -> usize
+pub(crate) fn first_apart(rows: &[[u8; 128]; 128], last: usize, s: usize, t: usize) -> usize
     requires { ⌜ (last < 128) × (s < 128) × (t < 128) ⌝ }
     ensures { λ r. ⌜ r ≡ lowest (last + 1) (λ i. not (eqb (getD (getD (now (rows .entry)) i []) s 0) (getD (getD (now (rows .entry)) i []) t 0))) ⌝ }
 {
@@ -55,7 +55,7 @@ fn first_with(row: &[u8; 128], n: u16, c: u8) -> u16
 }
 
 /// Writes the word of two states that P j sets apart: at each place the first input that does, by the partition before.
-pub fn spell<M: Machine>(
+pub(crate) fn spell<M: Machine>(
     machine: &M,
     rows: &[[u8; 128]; 128],
     j: usize,
@@ -86,7 +86,7 @@ pub fn spell<M: Machine>(
 }
 
 /// Writes the cells of the machine whose states are the numbers of a row: place x is of the number x / k and the input x % k.
-pub fn fill<M: Machine>(
+pub(crate) fn fill<M: Machine>(
     machine: &M,
     row: &[u8; 128],
     total: usize,
