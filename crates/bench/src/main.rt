@@ -1,5 +1,7 @@
 //! Settles machines of every form, from small ones to the panel's limits, and prints how many rounds and blocks each has.
 //! With a number of repeats as its argument it adds the best time, in nanoseconds, of opening a sheet and settling it.
+#![tactic(auto)]
+
 ghost use Rattle.std.specs.Prelude.{◌≡◌, false, IfOk, Ok};
 ghost use Rattle.sheet.specs.Replies.{settle_reply};
 ghost use Rattle.sheet.specs.Stage.{stage_at};

@@ -1,5 +1,7 @@
 //! The library as a program in another language reaches it: a script of numbers goes in, and the text of every answer comes out.
 //! docs/COMPARISON.md has the script and the text.
+#![tactic(auto)]
+
 ghost use Rattle.std.specs.Prelude.{◌≡◌, ◌≤◌, ◌++◌, length, drop};
 ghost use Rattle.machine.specs.Wheels.{hundredths};
 ghost use Rattle.bridge.specs.Handed.{Handed};

@@ -1,4 +1,6 @@
 //! Reads a chain from standard input and prints a card of the keys that tell its modes apart; a refusal ends the process with status 1.
+#![tactic(auto)]
+
 use listings::show;
 use std::io::Read;
 use views::Card;

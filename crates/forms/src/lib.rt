@@ -1,4 +1,6 @@
 //! The stored forms of a machine: a ring, a grid and a chain.
+#![tactic(auto)]
+
 ghost use Rattle.std.specs.Prelude.{◌≡◌, ◌+◌, ◌*◌, ◌<◌, ◌≤◌, vec_len};
 ghost use Rattle.forms.specs.Bytes.{states, inputs, start, count};
 

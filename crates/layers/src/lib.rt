@@ -1,4 +1,6 @@
 //! Machines made of machines: two beside each other, one that feeds another, and one under a key map.
+#![tactic(auto)]
+
 ghost use Rattle.std.specs.Prelude.{◌≡◌, ◌≤◌, length};
 
 pub use crate::faults::{KeymapFault, LayerFault, PairFault};

@@ -1,4 +1,6 @@
 //! A chain's machine reduced and shown, in one of several views; `reduce` prints the plain listing.
+#![tactic(auto)]
+
 ghost use Rattle.std.specs.Prelude.{◌≡◌, ℕ, List, ◌++◌, IfOk, string_bytes, OnOk};
 ghost use Rattle.forms.specs.Chains.{chain_opening};
 ghost use Rattle.forms.specs.Forms.{chain_of};

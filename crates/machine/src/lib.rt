@@ -1,4 +1,6 @@
 //! A machine: what it answers, what that means, and what every machine owes.
+#![tactic(auto)]
+
 ghost use Rattle.std.specs.Prelude.{◌≡◌};
 ghost use Rattle.machine.specs.Meaning.{Meaning, Sizes, Inside, Closed};
 

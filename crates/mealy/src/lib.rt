@@ -1,5 +1,7 @@
 //! The theory of equivalence of complete Mealy machines.
 //! A function here does nothing: its contract is a theorem over every machine.
+#![tactic(auto)]
+
 ghost use Rattle.mealy.specs.BlocksAndWords.{ShareByWords, ExactLengthSuffices};
 ghost use Rattle.mealy.specs.Numbering.{LeaderIsLowest, NumbersByShare, NumbersWithoutGaps, NumbersInOrder};
 ghost use Rattle.mealy.specs.Settling.{RoundsRefine, SplitsGrow, SettledByCount, OneBlockFirst, BlocksBounded};

@@ -1,5 +1,7 @@
 //! Reads a chain from standard input and writes it in normal form to standard output. A refusal is told on standard error
 //! as `reduce` tells it, and ends the process with status 1.
+#![tactic(auto)]
+
 use anyhow::anyhow;
 use reports::Report;
 use std::io::{Read, Write};

@@ -1,4 +1,6 @@
 //! Tests of piles of layers over stored forms.
+#![tactic(auto)]
+
 #[cfg(test)]
 mod orders;
 

@@ -1,4 +1,6 @@
 //! Reads a chain from standard input and prints its report; a refusal ends the process with status 1.
+#![tactic(auto)]
+
 use anyhow::anyhow;
 use reports::Report;
 use std::io::Read;

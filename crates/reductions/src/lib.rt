@@ -1,4 +1,6 @@
 //! A machine reduced: everything that its settled sheet hands out, in lists.
+#![tactic(auto)]
+
 ghost use Rattle.std.specs.Prelude.{◌≡◌, true, IfOk};
 ghost use Rattle.machine.specs.Theory.{sound_by};
 ghost use Rattle.reductions.specs.Reductions.{IsReduction, Reduced};

@@ -1,7 +1,9 @@
 //! Reads a chain from standard input, plays a list of calls on its sheet with roomy and with tight buffers, and prints the log.
+#![tactic(auto)]
+
 use anyhow::anyhow;
 use forms::Chain;
-use logbook::push_line;
+use log_texts::push_line;
 use machine::Command;
 use runs::{Call, Log, play};
 use std::io::Read;

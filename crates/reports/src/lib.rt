@@ -1,4 +1,6 @@
 //! What programs say of a chain that they open and check.
+#![tactic(auto)]
+
 ghost use Rattle.std.specs.Prelude.{◌≡◌, false, is_ok, IfOk, string_bytes};
 ghost use Rattle.forms.specs.Chains.{chain_opening};
 ghost use Rattle.forms.specs.Forms.{chain_of};

@@ -1,5 +1,7 @@
 //! One round over any numbering of a machine's states: which states join, the partition that they make, and the first
 //! input that sets two states apart.
+#![tactic(auto)]
+
 ghost use Rattle.std.specs.Prelude.{◌≡◌, ℕ, ◌<◌, ◌≤◌, false, not, ◌&&◌, ◌==◌, slice_index, slice_index_or};
 ghost use Rattle.mealy.specs.Below.{lowest};
 ghost use Rattle.rounds.specs.Joining.{joins_at, joins, finer};

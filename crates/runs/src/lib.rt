@@ -1,4 +1,6 @@
 //! Runs: any list of calls on one sheet, each handed to a recorder, and the law of what was recorded.
+#![tactic(auto)]
+
 ghost use Rattle.std.specs.Prelude.{◌≡◌, false, List};
 ghost use Rattle.sheet.specs.Kept.{Kept};
 ghost use Rattle.sheet.specs.Stage.{stage_at, stage_of};

@@ -1,4 +1,6 @@
 //! A sheet: a machine, and the partitions of its states that its rounds have taken, down to equivalence.
+#![tactic(auto)]
+
 ghost use Rattle.std.specs.Prelude.{◌<◌, ◌≤◌};
 
 pub use crate::answers::{Pair, Refusal, Round, Settling, Table, TableBuffer};

@@ -1,4 +1,6 @@
 //! Worked examples of sheets and runs, run as tests.
+#![tactic(auto)]
+
 #[cfg(test)]
 mod limits;
 #[cfg(test)]

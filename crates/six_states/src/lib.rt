@@ -1,4 +1,5 @@
 //! A machine of six states and two inputs, worked by hand: the example that tests share.
+#![tactic(auto)]
 
 /// Its cells from state 0 on, for inputs 0 and 1: next state and command. It starts at 0.
 pub const CELLS: [(u16, u16); 12] = [

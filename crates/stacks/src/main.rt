@@ -1,4 +1,6 @@
 //! Builds piles of machines, checks each, and prints what the check says.
+#![tactic(auto)]
+
 use forms::grids::BLANK;
 use forms::{Grid, OpenRefusal, Ring};
 use layers::{Beside, Keymap, Train};

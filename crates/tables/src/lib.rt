@@ -1,4 +1,6 @@
 //! A table that a sheet handed out, as a machine of its own.
+#![tactic(auto)]
+
 ghost use Rattle.std.specs.Prelude.{◌≡◌, ◌*◌, take, IfOk};
 ghost use Rattle.forms.specs.Forms.{grid_of};
 ghost use Rattle.forms.specs.Grids.{grid_opening};

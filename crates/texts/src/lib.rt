@@ -1,4 +1,6 @@
 //! Pieces of the lines that programs print.
+#![tactic(auto)]
+
 ghost use Rattle.std.specs.Prelude.{◌≡◌, ◌++◌, string_bytes, OnOk};
 ghost use Rattle.texts.specs.Numbers.{numbers_text};
 

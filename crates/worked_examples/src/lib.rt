@@ -1,4 +1,6 @@
 //! Worked examples of machines, stored forms and reports, run as tests.
+#![tactic(auto)]
+
 #[cfg(test)]
 mod chains;
 #[cfg(test)]

@@ -5,4 +5,4 @@ use Rattle.reductions.proofs.reduce.Goals as goal
 pub hand-out-requires : goal.hand-out-requires
 hand-out-requires g c =
     let m = g.M.Machine.means c.args.machine in
-    record { sound = (sound_decides m (g.met.M.Machine.sizes c.args.machine)).1 c.in-default.ensures.answer }
+    record { sound = (sound_decides m (g.met.M.Machine.sizes c.args.machine)).1 c.in_default.ensures.answer }

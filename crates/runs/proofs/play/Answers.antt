@@ -36,7 +36,7 @@ loop-i-preserved g c =
       c.ask-answer.ensures.kept inv.1,
       going_more key m.entry (stage_at key m 0 false) (buffers c.args.numbers.now c.args.next.now c.args.outputs.now) c.args.calls.now c.loop-i.i (g.R.Recorder.log c.args.recorder.now) (g.R.Recorder.log c.loop-i.recorder) t before inv.2
           k call.Round (omega arith) refl (entry_of k a c.ask-answer.new.numbers c.ask-answer.new.next c.ask-answer.new.outputs) refl right
-          (g.R.Recorder.log c.note.new.self) (stage_of g.M.Machine g.row.Out-Output c.ask-answer.new.sheet) c.in-default.ensures c.ask-answer.ensures.stage,
+          (g.R.Recorder.log c.note.new.self) (stage_of g.M.Machine g.row.Out-Output c.ask-answer.new.sheet) c.in_default.ensures c.ask-answer.ensures.stage,
     )
 
 pub returns-in-Err : goal.returns-in-Err

@@ -5,5 +5,5 @@ use Rattle.machine.proofs.checks.check.Goals as goal
 pub unreachable-requires : goal.unreachable-requires
 unreachable-requires g c =
     let m = c.args.machine.now in
-    let h = g.met.M.Machine.inside m 0 0 c.in-default.field-0 (sym c.entry.ensures ∙ c.in-default.is) in
+    let h = g.met.M.Machine.inside m 0 0 c.in_default.field-0 (sym c.entry.ensures ∙ c.in_default.is) in
     omega arith

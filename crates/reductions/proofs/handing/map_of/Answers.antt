@@ -14,7 +14,7 @@ unreachable-requires g c =
     let so = sym c.requires.kept.sounds ∙ c.requires.sound in
     let size : length c.deref-mut.result.now ≡ t.machine.states =
     omega (arith, c.deref-mut.ensures.len, c.in-ok-numbers.ensures.len, c.requires.states) in
-    ok≢err tt _ (sym (map_heard t so _ size) ∙ sym (c.map.ensures.answer c.requires.kept) ∙ c.in-default.is)
+    ok≢err tt _ (sym (map_heard t so _ size) ∙ sym (c.map.ensures.answer c.requires.kept) ∙ c.in_default.is)
 
 pub returns : goal.returns
 returns g c =

@@ -10,7 +10,7 @@ use Rattle.reductions.proofs.handing.settled.Goals as goal
 pub unreachable-requires : goal.unreachable-requires
 unreachable-requires g c =
     ok≢err _ _ (sym (settles g.row.Out-Output.key (g.M.Machine.means c.args.machine) c.requires.sound)
-    ∙ ap settle_reply (sym c.open-sheet.ensures.stage) ∙ sym (c.settle.ensures.answer c.open-sheet.ensures.kept) ∙ c.in-default.is)
+    ∙ ap settle_reply (sym c.open-sheet.ensures.stage) ∙ sym (c.settle.ensures.answer c.open-sheet.ensures.kept) ∙ c.in_default.is)
 
 pub returns : goal.returns
 returns g c =

@@ -24,7 +24,7 @@ unreachable-requires g c =
     let ln : length c.deref-mut.result.now ≡ cell_count t = omega (arith, c.deref-mut.ensures.len, c.in-ok-next.ensures.len, c.requires.cells) in
     let lo : length c.deref-mut-2.result.now ≡ cell_count t =
     ap length (c.deref-mut-2.ensures.value ∙ c.in-ok-outputs.ensures) ∙ length-replicate c.args.cells c.args.filler ∙ c.requires.cells in
-    ok≢err _ _ (sym (table_heard t so c.requires.settled _ _ ln lo) ∙ sym (c.table.ensures.answer c.requires.kept) ∙ c.in-default.is)
+    ok≢err _ _ (sym (table_heard t so c.requires.settled _ _ ln lo) ∙ sym (c.table.ensures.answer c.requires.kept) ∙ c.in_default.is)
 
 pub returns : goal.returns
 returns g c =

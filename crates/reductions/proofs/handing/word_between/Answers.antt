@@ -17,7 +17,7 @@ unreachable-requires g c =
     omega (arith, c.deref-mut.ensures.len, c.in-ok-word.ensures.len) in
     true≢false (sym c.requires.told
     ∙ ap (λ (n : ℕ). is_ok (word_reply t c.args.s c.args.t n)) (sym size)
-    ∙ ap is_ok (sym (c.word.ensures.answer c.requires.kept) ∙ c.in-default.is))
+    ∙ ap is_ok (sym (c.word.ensures.answer c.requires.kept) ∙ c.in_default.is))
 
 pub returns : goal.returns
 returns g c =

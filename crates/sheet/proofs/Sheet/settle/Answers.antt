@@ -63,14 +63,14 @@ returns g c =
     let f = c.advance.new.self in
     let p : s.machine ≡ a.machine = inv.0 in
     let q : f.machine ≡ a.machine = c.advance.ensures.same ∙ p in
-    let after = c.advance.ensures.stage ∙ ap (λ (r : Round). stage_after (Ok r) (stage_of g.M.Machine g.row.Out-Output s)) c.in-default.is in
+    let after = c.advance.ensures.stage ∙ ap (λ (r : Round). stage_after (Ok r) (stage_of g.M.Machine g.row.Out-Output s)) c.in_default.is in
     let rounds : f.rounds ≡ s.rounds = ap (λ (x : Stage). x.rounds) after in
     let answer : Kept g.M.Machine g.row.Out-Output a → Ok (record { rounds = c.rounds.accepted; count = f.parts }) ≡ settle_reply t = λ k.
     let so : sound_by m ≡ true = sym k.sounds ∙ c.if-not-self.false in
     let ks : KeptBy key m s = subst (λ (x : g.row.M.Denot). KeptBy key (g.M.Machine.means x) s) p (inv.5 k) in
     let kf : KeptBy key m f = subst (λ (x : g.row.M.Denot). KeptBy key (g.M.Machine.means x) f) q (c.advance.ensures.kept (inv.5 k) inv.1 inv.2) in
     let e = subst (λ (x : g.row.M.Denot). Ok c.advance.result ≡ round_reply (stage_at key (g.M.Machine.means x) s.rounds s.settled)) p (c.advance.ensures.answer (inv.5 k) inv.1 inv.2) in
-    settled_all key m sizes a s f c.rounds.accepted _ ks kf so c.if-self.false inv.2 (ap (λ (r : Round). Ok r) (sym c.in-default.is) ∙ e) rounds inv.3 inv.4 in
+    settled_all key m sizes a s f c.rounds.accepted _ ks kf so c.if-self.false inv.2 (ap (λ (r : Round). Ok r) (sym c.in_default.is) ∙ e) rounds inv.3 inv.4 in
     record {
       same = q;
       refused = tt;

@@ -30,15 +30,15 @@ first-with-s-requires g c =
     let fits = few_states (g.M.Machine.means x) (g.met.M.Machine.sizes x) in
     omega (arith, c.states-n.ensures)
 
-pub returns-in-default : goal.returns-in-default
-returns-in-default g c j sound held total =
+pub returns-in_default : goal.returns-in_default
+returns-in_default g c j sound held total =
     let m = g.M.Machine.means c.args.machine.now in
     let row : List ℕ = c.args.row.now in
     let x : ℕ = c.loop-x.x in
     let low = subst (λ (z : ℕ). x < z) total c.loop-x-test.true in
     let is = found_as row x c.first-with-s.result c.states-n.result m.states c.inputs-k.result m.inputs c.first-with-s.ensures c.states-n.ensures c.inputs-k.ensures in
-    absurd (table_filled g.row.Out-Output.key m (g.met.M.Machine.closed c.args.machine.now) sound j row held x c.first-with-s.result low is c.in-default.field-0
-    (ap (λ (z : ℕ). m.entry c.first-with-s.result (x % z)) (sym c.inputs-k.ensures) ∙ sym c.in-default.ensures))
+    absurd (table_filled g.row.Out-Output.key m (g.met.M.Machine.closed c.args.machine.now) sound j row held x c.first-with-s.result low is c.in_default.field-0
+    (ap (λ (z : ℕ). m.entry c.first-with-s.result (x % z)) (sym c.inputs-k.ensures) ∙ sym c.in_default.ensures))
 
 pub loop-x-preserved : goal.loop-x-preserved
 loop-x-preserved g c j sound held total =

@@ -5,17 +5,17 @@ use Rattle.mealy.specs.Partitions.{share}
 use Rattle.sheet.proofs.Spelling.{spelling_none, left_filled, right_filled, spelt_ends, spelt_goes}
 use Rattle.sheet.proofs.steps.spell.Goals as goal
 
-pub returns-in-default : goal.returns-in-default
-returns-in-default g c pre =
+pub returns-in_default : goal.returns-in_default
+returns-in_default g c pre =
     let x = c.args.machine.now in
     absurd (left_filled g.row.Out-Output.key (g.M.Machine.means x) (g.met.M.Machine.closed x) c.args.rows.now c.args.j c.args.s c.args.t c.args.out.now pre c.loop-place.place c.loop-place.a c.loop-place.b c.loop-place.out (omega arith) (c.loop-place.invariant pre) c.first-input-i.result c.first-input-i.ensures
-    c.in-default.field-0 (sym c.in-default.ensures))
+    c.in_default.field-0 (sym c.in_default.ensures))
 
-pub returns-in-default-entry : goal.returns-in-default-entry
-returns-in-default-entry g c pre =
+pub returns-in_default-entry : goal.returns-in_default-entry
+returns-in_default-entry g c pre =
     let x = c.args.machine.now in
     absurd (right_filled g.row.Out-Output.key (g.M.Machine.means x) (g.met.M.Machine.closed x) c.args.rows.now c.args.j c.args.s c.args.t c.args.out.now pre c.loop-place.place c.loop-place.a c.loop-place.b c.loop-place.out (omega arith) (c.loop-place.invariant pre) c.first-input-i.result c.first-input-i.ensures
-    c.in-default-entry.field-0 (sym c.in-default-entry.ensures))
+    c.in_default-entry.field-0 (sym c.in_default-entry.ensures))
 
 -- P 0 sets no states apart, so the word has ended before.
 pub returns : goal.returns

@@ -1,4 +1,4 @@
-use Rattle.logbook.proofs.push_pair.Goals as goal
+use Rattle.log_texts.proofs.push_pair.Goals as goal
 
 pub returns-in-Together : goal.returns-in-Together
 returns-in-Together c = simp c.in-Together.is c.write-in-Together.ensures.bytes

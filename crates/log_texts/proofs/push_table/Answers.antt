@@ -1,8 +1,8 @@
 use Rattle.std.proofs.Common.{◌++◌, map, string_bytes, codes}
 use Rattle.texts.specs.Numbers.{numbers_text}
-use Rattle.logbook.specs.Lines.{kept_text, number_of}
+use Rattle.log_texts.specs.Lines.{kept_text, number_of}
 use Rattle.texts.proofs.Joining.{joined}
-use Rattle.logbook.proofs.push_table.Goals as goal
+use Rattle.log_texts.proofs.push_table.Goals as goal
 
 pub returns : goal.returns
 returns c =

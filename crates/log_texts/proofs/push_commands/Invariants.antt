@@ -1,7 +1,7 @@
 use Rattle.std.proofs.Common.{◌≡◌, ◌++◌, map, drop, string_bytes}
 use Rattle.texts.specs.Numbers.{numbers_text}
-use Rattle.logbook.specs.Lines.{number_of}
-use Rattle.logbook.proofs.push_commands.Given as goal
+use Rattle.log_texts.specs.Lines.{number_of}
+use Rattle.log_texts.proofs.push_commands.Given as goal
 
 -- what is left to add makes the whole
 abbrev pub invariant-loop-command : goal.invariant-loop-command

@@ -2,8 +2,8 @@ use Rattle.std.proofs.Common.{ℕ, ◌+◌, List, ◌++◌, map, length, drop, s
 use Rattle.std.proofs.lemmas.List.{length-map, get_or-map}
 use Rattle.texts.specs.Numbers.{numbers_text}
 use Rattle.texts.proofs.Pieces.{numbers_step, numbers_done}
-use Rattle.logbook.specs.Lines.{number_of}
-use Rattle.logbook.proofs.push_commands.Goals as goal
+use Rattle.log_texts.specs.Lines.{number_of}
+use Rattle.log_texts.proofs.push_commands.Goals as goal
 
 pub loop-command-preserved : goal.loop-command-preserved
 loop-command-preserved c =

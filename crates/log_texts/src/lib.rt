@@ -1,8 +1,10 @@
 //! A log as text, a line for each call.
+#![tactic(auto)]
+
 ghost use Rattle.std.specs.Prelude.{◌≡◌, ◌++◌, map, string_bytes, OnOk};
 ghost use Rattle.runs.specs.Lines.{entry_at};
 ghost use Rattle.texts.specs.Numbers.{numbers_text};
-ghost use Rattle.logbook.specs.Lines.{call_text, refusal_text, round_text, pair_text, answer_text, kept_text, table_text, buffers_text, line_text, number_of};
+ghost use Rattle.log_texts.specs.Lines.{call_text, refusal_text, round_text, pair_text, answer_text, kept_text, table_text, buffers_text, line_text, number_of};
 
 use machine::Command;
 use runs::{Answer, Call, Line};

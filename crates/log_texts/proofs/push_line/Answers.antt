@@ -1,8 +1,8 @@
 use Rattle.std.proofs.Common.{◌++◌, string_bytes, codes}
 use Rattle.runs.specs.Lines.{entry_at}
-use Rattle.logbook.specs.Lines.{call_text, answer_text, buffers_text}
+use Rattle.log_texts.specs.Lines.{call_text, answer_text, buffers_text}
 use Rattle.texts.proofs.Joining.{joined}
-use Rattle.logbook.proofs.push_line.Goals as goal
+use Rattle.log_texts.proofs.push_line.Goals as goal
 
 pub returns : goal.returns
 returns c =

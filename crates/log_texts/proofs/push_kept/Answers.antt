@@ -1,7 +1,7 @@
 use Rattle.std.proofs.Common.{string_bytes, codes}
 use Rattle.texts.specs.Numbers.{numbers_text}
 use Rattle.texts.proofs.Joining.{joined}
-use Rattle.logbook.proofs.push_kept.Goals as goal
+use Rattle.log_texts.proofs.push_kept.Goals as goal
 
 pub returns : goal.returns
 returns c =
