@@ -73,7 +73,7 @@ struct Settled {
 }
 
 fn settle<M: Machine + Drop>(rt: &HostRuntime, machine: M) -> anyhow::Result<Settled>
-    ensures { IfOk result (λ x. Ok x.answer ≡ settle_reply (stage_at Out-as-Output.key (M.Machine.means machine) 0 false)) }
+    ensures { IfOk result (λ x. Ok x.answer ≡ settle_reply (stage_at M.Out.key (M.Machine.means machine) 0 false)) }
 {
     let start = Instant::now(rt)?;
     let mut sheet = Sheet::open(machine);

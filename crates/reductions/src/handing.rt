@@ -27,10 +27,10 @@ pub(crate) struct Done<M> {
 /// Settles the sheet of a sound machine.
 pub(crate) fn settled<M: Machine>(machine: M) -> Done<M>
     requires sound { sound_by (M.Machine.means machine) ≡ true }
-    ensures kept { Kept M.Machine Out-as-Output result.sheet }
+    ensures kept { Kept M.Machine M.Out.Output result.sheet }
     ensures same { result.sheet.machine ≡ machine }
-    ensures stage { stage_of M.Machine Out-as-Output result.sheet ≡ settled_stage Out-as-Output.key (M.Machine.means machine) }
-    ensures settling { result.settling ≡ settling_of (settled_stage Out-as-Output.key (M.Machine.means machine)) }
+    ensures stage { stage_of M.Machine M.Out.Output result.sheet ≡ settled_stage M.Out.key (M.Machine.means machine) }
+    ensures settling { result.settling ≡ settling_of (settled_stage M.Out.key (M.Machine.means machine)) }
 {
     let mut sheet = Sheet::open(machine);
     let Ok(settling) = sheet.settle() else {
@@ -64,10 +64,10 @@ pub(crate) fn map_of<M: Machine>(
     sheet: &Sheet<M>,
     states: u16,
 ) -> Result<Vec<u16>, AllocError>
-    requires kept { Kept M.Machine Out-as-Output sheet.now }
+    requires kept { Kept M.Machine M.Out.Output sheet.now }
     requires sound { sheet.now.sound ≡ true }
     requires states { states ≡ (M.Machine.means sheet.now.machine).states }
-    ensures { IfOk result (λ v. v.items ≡ blocks (stage_of M.Machine Out-as-Output sheet.now).machine sheet.now.rounds) }
+    ensures { IfOk result (λ v. v.items ≡ blocks (stage_of M.Machine M.Out.Output sheet.now).machine sheet.now.rounds) }
 {
     let mut numbers = vec![in heap; 0u16; states as usize]?;
     let Ok(()) = sheet.map(&mut numbers) else {
@@ -148,9 +148,9 @@ fn word_between<M: Machine>(
     s: u16,
     t: u16,
 ) -> Result<Vec<u16>, AllocError>
-    requires kept { Kept M.Machine Out-as-Output sheet.now }
-    requires told { is_ok (word_reply (stage_of M.Machine Out-as-Output sheet.now) s t 128) ≡ true }
-    ensures { IfOk result (λ v. v.items ≡ word_of (stage_of M.Machine Out-as-Output sheet.now).machine sheet.now.rounds s t) }
+    requires kept { Kept M.Machine M.Out.Output sheet.now }
+    requires told { is_ok (word_reply (stage_of M.Machine M.Out.Output sheet.now) s t 128) ≡ true }
+    ensures { IfOk result (λ v. v.items ≡ word_of (stage_of M.Machine M.Out.Output sheet.now).machine sheet.now.rounds s t) }
 {
     let mut word = vec![in heap; 0u16; MOST_STATES as usize]?;
     let Ok(length) = sheet.word(s, t, &mut word) else {
@@ -168,11 +168,11 @@ fn push_aparts<M: Machine>(
     class: usize,
     aparts: &mut Vec<Apart>,
 ) -> Result<(), AllocError>
-    requires kept { Kept M.Machine Out-as-Output sheet.now }
+    requires kept { Kept M.Machine M.Out.Output sheet.now }
     requires within { class < length leaders.now }
     requires few { length leaders.now ≤ 128 }
-    requires told { Told (stage_of M.Machine Out-as-Output sheet.now) leaders.now }
-    ensures { OnOk result (map apart_of aparts.new.items ≡ map apart_of aparts.old.items ++ aparts_above (stage_of M.Machine Out-as-Output sheet.now).machine sheet.now.rounds leaders.now class) }
+    requires told { Told (stage_of M.Machine M.Out.Output sheet.now) leaders.now }
+    ensures { OnOk result (map apart_of aparts.new.items ≡ map apart_of aparts.old.items ++ aparts_above (stage_of M.Machine M.Out.Output sheet.now).machine sheet.now.rounds leaders.now class) }
 {
     for other in class + 1..leaders.len() {
         let word = word_between(heap, sheet, leaders[class], leaders[other])?;
@@ -191,10 +191,10 @@ pub(crate) fn all_aparts<M: Machine>(
     sheet: &Sheet<M>,
     leaders: &[u16],
 ) -> Result<Vec<Apart>, AllocError>
-    requires kept { Kept M.Machine Out-as-Output sheet.now }
+    requires kept { Kept M.Machine M.Out.Output sheet.now }
     requires few { length leaders.now ≤ 128 }
-    requires told { Told (stage_of M.Machine Out-as-Output sheet.now) leaders.now }
-    ensures { IfOk result (λ v. map apart_of v.items ≡ aparts_of (stage_of M.Machine Out-as-Output sheet.now).machine sheet.now.rounds leaders.now) }
+    requires told { Told (stage_of M.Machine M.Out.Output sheet.now) leaders.now }
+    ensures { IfOk result (λ v. map apart_of v.items ≡ aparts_of (stage_of M.Machine M.Out.Output sheet.now).machine sheet.now.rounds leaders.now) }
 {
     let mut aparts = Vec::new(heap);
     for class in 0..leaders.len() {

@@ -26,7 +26,7 @@ fn in_one_block(prev: &[u8; 128], a: u16, b: u16) -> bool
 
 /// Whether two states have cells at an input, with outputs alike and next states of one number.
 fn joins_at<M: Machine>(machine: &M, prev: &[u8; 128], s: u16, t: u16, i: u16) -> bool
-    ensures { result ≡ joins_at Out-as-Output.key (M.Machine.means machine.now) prev.now s t i }
+    ensures { result ≡ joins_at M.Out.key (M.Machine.means machine.now) prev.now s t i }
 {
     let Ok(a) = machine.entry(s, i) else {
         return false;
@@ -39,7 +39,7 @@ fn joins_at<M: Machine>(machine: &M, prev: &[u8; 128], s: u16, t: u16, i: u16) -
 
 /// The same at every input.
 fn joins_everywhere<M: Machine>(machine: &M, prev: &[u8; 128], s: u16, t: u16) -> bool
-    ensures { result ≡ joins Out-as-Output.key (M.Machine.means machine.now) prev.now s t }
+    ensures { result ≡ joins M.Out.key (M.Machine.means machine.now) prev.now s t }
 {
     for i in 0..machine.inputs() {
         if !joins_at(machine, prev, s, t, i) {
@@ -58,7 +58,7 @@ fn joins_leader<M: Machine>(
     s: u16,
 ) -> bool
     requires { (t < 128) × (s < 128) }
-    ensures { result ≡ (slice_index_or leads.now t false && finer Out-as-Output.key (M.Machine.means machine.now) prev.now t s) }
+    ensures { result ≡ (slice_index_or leads.now t false && finer M.Out.key (M.Machine.means machine.now) prev.now t s) }
 {
     if !leads[t as usize] {
         return false;
@@ -72,7 +72,7 @@ fn joins_leader<M: Machine>(
 /// The lowest of the leaders so far that s joins, or s itself.
 fn leader_of<M: Machine>(machine: &M, prev: &[u8; 128], leads: &[bool; 128], s: u16) -> u16
     requires { s < 128 }
-    ensures { result ≡ lowest s (λ t. slice_index_or leads.now t false && finer Out-as-Output.key (M.Machine.means machine.now) prev.now t s) }
+    ensures { result ≡ lowest s (λ t. slice_index_or leads.now t false && finer M.Out.key (M.Machine.means machine.now) prev.now t s) }
 {
     for t in 0..s {
         if joins_leader(machine, prev, leads, t, s) {
@@ -84,7 +84,7 @@ fn leader_of<M: Machine>(machine: &M, prev: &[u8; 128], leads: &[bool; 128], s: 
 
 /// The next partition. From the numbers of P j of a sound machine it makes those of P (j + 1).
 pub fn refine<M: Machine>(machine: &M, prev: &[u8; 128]) -> Refined
-    ensures next { Refines Out-as-Output.key (M.Machine.means machine.now) prev.now result.row result.parts }
+    ensures next { Refines M.Out.key (M.Machine.means machine.now) prev.now result.row result.parts }
     ensures few { result.parts ≤ 128 }
 {
     let mut row = [0u8; 128];
@@ -105,7 +105,7 @@ pub fn refine<M: Machine>(machine: &M, prev: &[u8; 128]) -> Refined
 
 /// The first input that sets two states apart by a numbering, or the count of inputs.
 pub fn first_input<M: Machine>(machine: &M, prev: &[u8; 128], s: u16, t: u16) -> u16
-    ensures { FirstInput Out-as-Output.key (M.Machine.means machine.now) prev.now s t result }
+    ensures { FirstInput M.Out.key (M.Machine.means machine.now) prev.now s t result }
 {
     let k = machine.inputs();
     for i in 0..k {

@@ -17,9 +17,9 @@ impl<M: Machine> Sheet<M> {
     /// A sheet of one block, whatever the machine.
     pub fn open(machine: M) -> Sheet<M>
         ensures same { result.machine ≡ machine }
-        ensures stage { stage_of M.Machine Out-as-Output result ≡ stage_at Out-as-Output.key (M.Machine.means machine) 0 false }
+        ensures stage { stage_of M.Machine M.Out.Output result ≡ stage_at M.Out.key (M.Machine.means machine) 0 false }
         ensures sound { Decides (sound_by (M.Machine.means machine)) (Sound (M.Machine.means machine)) }
-        ensures kept { Kept M.Machine Out-as-Output result }
+        ensures kept { Kept M.Machine M.Out.Output result }
     {
         let sound = check(&machine).is_ok();
         Sheet {
@@ -35,10 +35,10 @@ impl<M: Machine> Sheet<M> {
     /// Takes the next partition where it has more blocks than the last one, and settles the sheet where it has not.
     fn advance(&mut self) -> Round
         ensures same { self.new.machine ≡ self.old.machine }
-        ensures stage { stage_of M.Machine Out-as-Output self.new ≡ stage_after (Ok result) (stage_of M.Machine Out-as-Output self.old) }
+        ensures stage { stage_of M.Machine M.Out.Output self.new ≡ stage_after (Ok result) (stage_of M.Machine M.Out.Output self.old) }
         ensures sound { self.new.sound ≡ self.old.sound }
-        ensures kept { Kept M.Machine Out-as-Output self.old → self.old.sound ≡ true → self.old.settled ≡ false → Kept M.Machine Out-as-Output self.new }
-        ensures answer { Kept M.Machine Out-as-Output self.old → self.old.sound ≡ true → self.old.settled ≡ false → Ok result ≡ round_reply (stage_of M.Machine Out-as-Output self.old) }
+        ensures kept { Kept M.Machine M.Out.Output self.old → self.old.sound ≡ true → self.old.settled ≡ false → Kept M.Machine M.Out.Output self.new }
+        ensures answer { Kept M.Machine M.Out.Output self.old → self.old.sound ≡ true → self.old.settled ≡ false → Ok result ≡ round_reply (stage_of M.Machine M.Out.Output self.old) }
     {
         let prev = self.rows[self.rounds];
         let refined = refine(&self.machine, &prev);
@@ -62,10 +62,10 @@ impl<M: Machine> Sheet<M> {
     pub fn round(&mut self) -> Result<Round, Refusal>
         ensures same { self.new.machine ≡ self.old.machine }
         ensures refused { Unchanged result self.old self.new }
-        ensures stage { stage_of M.Machine Out-as-Output self.new ≡ stage_after result (stage_of M.Machine Out-as-Output self.old) }
-        ensures kept { Kept M.Machine Out-as-Output self.old → Kept M.Machine Out-as-Output self.new }
-        ensures answer { Kept M.Machine Out-as-Output self.old → result ≡ round_reply (stage_of M.Machine Out-as-Output self.old) }
-        ensures means { Kept M.Machine Out-as-Output self.old → RoundMeans (stage_of M.Machine Out-as-Output self.old) result }
+        ensures stage { stage_of M.Machine M.Out.Output self.new ≡ stage_after result (stage_of M.Machine M.Out.Output self.old) }
+        ensures kept { Kept M.Machine M.Out.Output self.old → Kept M.Machine M.Out.Output self.new }
+        ensures answer { Kept M.Machine M.Out.Output self.old → result ≡ round_reply (stage_of M.Machine M.Out.Output self.old) }
+        ensures means { Kept M.Machine M.Out.Output self.old → RoundMeans (stage_of M.Machine M.Out.Output self.old) result }
     {
         if !self.sound {
             return Err(Refusal::Unsound);
@@ -81,10 +81,10 @@ impl<M: Machine> Sheet<M> {
     pub fn settle(&mut self) -> Result<Settling, Refusal>
         ensures same { self.new.machine ≡ self.old.machine }
         ensures refused { Unchanged result self.old self.new }
-        ensures stage { stage_of M.Machine Out-as-Output self.new ≡ stage_settled result (stage_of M.Machine Out-as-Output self.old) }
-        ensures kept { Kept M.Machine Out-as-Output self.old → Kept M.Machine Out-as-Output self.new }
-        ensures answer { Kept M.Machine Out-as-Output self.old → result ≡ settle_reply (stage_of M.Machine Out-as-Output self.old) }
-        ensures means { Kept M.Machine Out-as-Output self.old → SettleMeans (stage_of M.Machine Out-as-Output self.old) result }
+        ensures stage { stage_of M.Machine M.Out.Output self.new ≡ stage_settled result (stage_of M.Machine M.Out.Output self.old) }
+        ensures kept { Kept M.Machine M.Out.Output self.old → Kept M.Machine M.Out.Output self.new }
+        ensures answer { Kept M.Machine M.Out.Output self.old → result ≡ settle_reply (stage_of M.Machine M.Out.Output self.old) }
+        ensures means { Kept M.Machine M.Out.Output self.old → SettleMeans (stage_of M.Machine M.Out.Output self.old) result }
     {
         if !self.sound {
             return Err(Refusal::Unsound);
@@ -104,8 +104,8 @@ impl<M: Machine> Sheet<M> {
 
     /// Whether two states are told apart so far, and by how many inputs.
     pub fn pair(&self, s: u16, t: u16) -> Result<Pair, Refusal>
-        ensures answer { Kept M.Machine Out-as-Output self.now → result ≡ pair_reply (stage_of M.Machine Out-as-Output self.now) s t }
-        ensures means { Kept M.Machine Out-as-Output self.now → PairMeans (stage_of M.Machine Out-as-Output self.now) s t result }
+        ensures answer { Kept M.Machine M.Out.Output self.now → result ≡ pair_reply (stage_of M.Machine M.Out.Output self.now) s t }
+        ensures means { Kept M.Machine M.Out.Output self.now → PairMeans (stage_of M.Machine M.Out.Output self.now) s t result }
     {
         if !self.sound {
             return Err(Refusal::Unsound);
@@ -126,9 +126,9 @@ impl<M: Machine> Sheet<M> {
 
     /// Writes the block number of each state.
     pub fn map(&self, out: &mut [u16]) -> Result<(), Refusal>
-        ensures answer { Kept M.Machine Out-as-Output self.now → result ≡ map_reply (stage_of M.Machine Out-as-Output self.now) (length out.old) }
-        ensures buffer { Kept M.Machine Out-as-Output self.now → out.new ≡ map_after (stage_of M.Machine Out-as-Output self.now) out.old }
-        ensures means { Kept M.Machine Out-as-Output self.now → MapMeans (stage_of M.Machine Out-as-Output self.now) result out.new }
+        ensures answer { Kept M.Machine M.Out.Output self.now → result ≡ map_reply (stage_of M.Machine M.Out.Output self.now) (length out.old) }
+        ensures buffer { Kept M.Machine M.Out.Output self.now → out.new ≡ map_after (stage_of M.Machine M.Out.Output self.now) out.old }
+        ensures means { Kept M.Machine M.Out.Output self.now → MapMeans (stage_of M.Machine M.Out.Output self.now) result out.new }
     {
         if !self.sound {
             return Err(Refusal::Unsound);
@@ -144,9 +144,9 @@ impl<M: Machine> Sheet<M> {
 
     /// Writes the first of the shortest words that tell two states apart.
     pub fn word(&self, s: u16, t: u16, out: &mut [u16]) -> Result<usize, Refusal>
-        ensures answer { Kept M.Machine Out-as-Output self.now → result ≡ word_reply (stage_of M.Machine Out-as-Output self.now) s t (length out.old) }
-        ensures buffer { Kept M.Machine Out-as-Output self.now → out.new ≡ word_after (stage_of M.Machine Out-as-Output self.now) s t out.old }
-        ensures means { Kept M.Machine Out-as-Output self.now → WordMeans (stage_of M.Machine Out-as-Output self.now) s t result out.new }
+        ensures answer { Kept M.Machine M.Out.Output self.now → result ≡ word_reply (stage_of M.Machine M.Out.Output self.now) s t (length out.old) }
+        ensures buffer { Kept M.Machine M.Out.Output self.now → out.new ≡ word_after (stage_of M.Machine M.Out.Output self.now) s t out.old }
+        ensures means { Kept M.Machine M.Out.Output self.now → WordMeans (stage_of M.Machine M.Out.Output self.now) s t result out.new }
     {
         if !self.sound {
             return Err(Refusal::Unsound);

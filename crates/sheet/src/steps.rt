@@ -59,7 +59,7 @@ pub(crate) fn spell<M: Machine>(
     out: &mut [u16],
 )
     requires room { (j < 128) × (j ≤ length out.old) }
-    ensures { Spelt Out-as-Output.key (M.Machine.means machine.now) rows.now j s t out.old out.new }
+    ensures { Spelt M.Out.key (M.Machine.means machine.now) rows.now j s t out.old out.new }
 {
     let mut a = s;
     let mut b = t;

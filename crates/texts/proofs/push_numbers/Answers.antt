@@ -7,7 +7,7 @@ pub loop-n-preserved : goal.loop-n-preserved
 loop-n-preserved c =
     let ns = c.args.numbers.now in
     let i = c.loop-n.n-index in
-    ap (λ (t : List ℕ). t ++ numbers_text (drop (i + 1) ns)) c.in-ok-write.ensures.bytes
+    ap (λ (t : List ℕ). t ++ numbers_text (drop (i + 1) ns)) c.in_ok-write.ensures.bytes
     ∙ (numbers_step (string_bytes c.loop-n.text) ns i (get_or ns i 0) (omega arith) refl ∙ c.loop-n.invariant)
 
 pub returns : goal.returns

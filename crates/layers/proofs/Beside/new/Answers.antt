@@ -8,6 +8,6 @@ returns g c =
     let b = g.Q.Machine.means c.args.second in
     record {
       made = refl;
-      first-misfit = beside_first a b (g.met.P.Machine.inside c.args.first);
-      second-misfit = beside_second a b (g.met.Q.Machine.inside c.args.second);
+      first_misfit = beside_first a b (g.met.P.Machine.inside c.args.first);
+      second_misfit = beside_second a b (g.met.Q.Machine.inside c.args.second);
     }

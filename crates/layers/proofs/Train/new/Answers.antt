@@ -8,6 +8,6 @@ returns g c =
     let b = g.U.Machine.means c.args.upper in
     record {
       made = refl;
-      lower-misfit = train_lower a b (g.met.L.Machine.inside c.args.lower);
-      upper-misfit = train_upper a b (g.met.U.Machine.inside c.args.upper);
+      lower_misfit = train_lower a b (g.met.L.Machine.inside c.args.lower);
+      upper_misfit = train_upper a b (g.met.U.Machine.inside c.args.upper);
     }
