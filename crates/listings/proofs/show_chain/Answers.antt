@@ -24,4 +24,4 @@ pub returns-in-Unsound : goal.returns-in-Unsound
 returns-in-Unsound g c =
     let m = chain_of c.args.chain in
     let refused = subst (λ (u : Unreduced StoredFault). Reduced command_key m (Err u)) c.in-Unsound.is c.in-Err.ensures in
-    IfOk-weaker c.of-unsound.result _ _ (λ x told. (Err c.in-Unsound.refusal, refused, told.0, told.1)) c.of-unsound.ensures
+    IfOk-weaker c.of_unsound.result _ _ (λ x told. (Err c.in-Unsound.refusal, refused, told.0, told.1)) c.of_unsound.ensures

@@ -11,7 +11,7 @@ loop-command-preserved c =
     let ns = map number_of cs in
     let i = c.loop-command.command-index in
     let e = length-map cs number_of in
-    ap (λ (t : List ℕ). t ++ numbers_text (drop (i + 1) ns)) c.in-ok-write.ensures.bytes
+    ap (λ (t : List ℕ). t ++ numbers_text (drop (i + 1) ns)) c.in_ok-write.ensures.bytes
     ∙ (numbers_step (string_bytes c.loop-command.text) ns i _ (omega arith)
     (sym (get_or-map number_of cs i (record { number = 0 }) 0 (omega arith)))
     ∙ c.loop-command.invariant)

@@ -12,8 +12,8 @@ use Rattle.rounds.proofs.Rows.{row_filled}
 use Rattle.rounds.proofs.refine.Goals as goal
 use Rattle.rounds.proofs.refine.Goals.{then-t-s, else-t-s}
 
-pub leader-of-t-requires : goal.leader-of-t-requires
-leader-of-t-requires g c =
+pub leader_of-t-requires : goal.leader_of-t-requires
+leader_of-t-requires g c =
     let m = c.args.machine.now in
     let fits = few_states (g.M.Machine.means m) (g.met.M.Machine.sizes m) in
     omega (arith, c.states-s-end.ensures)
@@ -42,8 +42,8 @@ bounds-leads-s g c =
     let fits = few_states (g.M.Machine.means m) (g.met.M.Machine.sizes m) in
     omega (arith, c.states-s-end.ensures)
 
-pub overflow-add-begun : goal.overflow-add-begun
-overflow-add-begun g c =
+pub overflow_add-begun : goal.overflow_add-begun
+overflow_add-begun g c =
     let m = c.args.machine.now in
     let fits = few_states (g.M.Machine.means m) (g.met.M.Machine.sizes m) in
     omega (arith, c.states-s-end.ensures, filled_few _ _ _ _ _ c.loop-s.invariant)
@@ -51,17 +51,17 @@ overflow-add-begun g c =
 pub loop-s-preserved : goal.loop-s-preserved
 loop-s-preserved g c =
     let m = c.args.machine.now in
-    let p : ℕ → ℕ → Bool = finer g.row.Out-Output.key (g.M.Machine.means m) c.args.prev.now in
-    let trans : (u t s : ℕ) → p u t ≡ true → p t s ≡ true → p u s ≡ true = finer_trans g.row.Out-Output.key (g.M.Machine.means m) c.args.prev.now in
+    let p : ℕ → ℕ → Bool = finer g.M.Out.Output.key (g.M.Machine.means m) c.args.prev.now in
+    let trans : (u t s : ℕ) → p u t ≡ true → p t s ≡ true → p u s ≡ true = finer_trans g.M.Out.Output.key (g.M.Machine.means m) c.args.prev.now in
     let fits = few_states (g.M.Machine.means m) (g.met.M.Machine.sizes m) in
     let s : ℕ = c.loop-s.s in
     let few : s < 128 = omega (arith, c.states-s-end.ensures) in
     let so : Filled p s c.loop-s.row c.loop-s.leads c.loop-s.begun = c.loop-s.invariant in
-    let is : c.leader-of-t.result ≡ lead_of p s = c.leader-of-t.ensures ∙ lead_found p trans (λ t. get_or c.loop-s.leads t false) s so.who_leads in
+    let is : c.leader_of-t.result ≡ lead_of p s = c.leader_of-t.ensures ∙ lead_found p trans (λ t. get_or c.loop-s.leads t false) s so.who_leads in
     elim c.if-t-s.branch [
       | then-t-s w ↦
           filled_as p (s + 1) _ _ _ _ _ _ w.row-is w.leads-is w.begun-is
-          (filled_joins p s c.loop-s.row c.loop-s.leads c.loop-s.begun few so trans c.leader-of-t.result (sym is) w.if-t-s.true)
+          (filled_joins p s c.loop-s.row c.loop-s.leads c.loop-s.begun few so trans c.leader_of-t.result (sym is) w.if-t-s.true)
       | else-t-s w ↦
           let leads : lead_of p s ≡ s = omega (arith, is, w.if-t-s.false, (lowest_is s (λ t. p t s)).within) in
           filled_as p (s + 1) _ _ _ _ _ _ w.row-is w.leads-is w.begun-is
@@ -75,7 +75,7 @@ pub returns : goal.returns
 returns g c =
     let x = c.args.machine.now in
     let m = g.M.Machine.means x in
-    let key = g.row.Out-Output.key in
+    let key = g.M.Out.Output.key in
     let fits = few_states m (g.met.M.Machine.sizes x) in
     let p : ℕ → ℕ → Bool = finer key m c.args.prev.now in
     let whole : c.loop-s.s ≡ m.states = omega (arith, c.states-s-end.ensures) in

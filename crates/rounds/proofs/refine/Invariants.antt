@@ -4,4 +4,4 @@ use Rattle.rounds.specs.Joining.{finer}
 
 abbrev pub invariant-loop-s : goal.invariant-loop-s
 invariant-loop-s g l =
-    Filled (finer g.row.Out-Output.key (g.M.Machine.means l.machine) l.prev) l.s l.row l.leads l.begun
+    Filled (finer g.M.Out.Output.key (g.M.Machine.means l.machine) l.prev) l.s l.row l.leads l.begun

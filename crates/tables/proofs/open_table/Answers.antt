@@ -16,4 +16,4 @@ returns g c =
     c.open.ensures
     ∙ (ap (λ (l : List ℕ). grid_opening t.classes k t.start l (vec_items c.truncate-2.new.self)) c.truncate.ensures.items
     ∙ ap (λ (l : List g.row.O.Denot). grid_opening t.classes k t.start (take (t.classes * k) next) l) c.truncate-2.ensures.items) in
-    record { answer = e; means = table_means g.row.O-Output.key t.classes k t.start next outs c.open.result e }
+    record { answer = e; means = table_means g.O.Output.key t.classes k t.start next outs c.open.result e }

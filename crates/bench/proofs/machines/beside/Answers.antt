@@ -12,5 +12,5 @@ returns c =
     let k = c.args.inputs in
     let table = measured c.args.case in
     c.new.ensures.made
-    ∙ (ap (λ (x : Meaning Command StoredFault). beside x (grid_of c.in-ok-second.second)) (c.in-ok-first.ensures ∙ ap (λ (n : ℕ). table n k) c.saturating-sub.ensures)
-    ∙ ap (beside (table (c.args.states - 1) k)) c.in-ok-second.ensures)
+    ∙ (ap (λ (x : Meaning Command StoredFault). beside x (grid_of c.in_ok-second.second)) (c.in_ok-first.ensures ∙ ap (λ (n : ℕ). table n k) c.saturating_sub.ensures)
+    ∙ ap (beside (table (c.args.states - 1) k)) c.in_ok-second.ensures)

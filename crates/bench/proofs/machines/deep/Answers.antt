@@ -14,11 +14,11 @@ pub returns : goal.returns
 returns c =
     let n = c.args.states in
     let lower = λ (t : ℕ). singled c.args.case (n / t) c.args.inputs in
-    let size = c.ring-size-size.ensures.size in
+    let size = c.ring_size-size.ensures.size in
     let part =
     c.new.ensures.made
-    ∙ (ap (λ (x : Meaning Command (PairFault StoredFault StoredFault)). train x (ring_of c.in-ok-ring.field-0)) (c.in-ok-lower.ensures ∙ ap lower size)
-    ∙ ap (train (lower (turns n))) (c.in-ok-ring.ensures ∙ ap ring_meaning size)) in
+    ∙ (ap (λ (x : Meaning Command (PairFault StoredFault StoredFault)). train x (ring_of c.in_ok-ring.field-0)) (c.in_ok-lower.ensures ∙ ap lower size)
+    ∙ ap (train (lower (turns n))) (c.in_ok-ring.ensures ∙ ap ring_meaning size)) in
     c.new-2.ensures.made
     ∙ (ap (λ (x : Meaning Command (PairFault (PairFault StoredFault StoredFault) StoredFault)). keymap x c.deref.result.now) part
-    ∙ ap (keymap (train (lower (turns n)) (ring_meaning (turns n)))) (c.deref.ensures.value ∙ c.in-ok-keys.ensures))
+    ∙ ap (keymap (train (lower (turns n)) (ring_meaning (turns n)))) (c.deref.ensures.value ∙ c.in_ok-keys.ensures))

@@ -5,6 +5,6 @@ use Rattle.bench.proofs.machines.grid.Goals as goal
 
 pub loop-state-preserved : goal.loop-state-preserved
 loop-state-preserved c = (
-  one_more_lem [] _ _ (next_row c.args.inputs) c.loop-state.state c.loop-state.invariant.0 c.in-ok-push-row.ensures.nexts,
-  one_more_lem [] _ _ (command_row c.args.case c.args.inputs) c.loop-state.state c.loop-state.invariant.1 c.in-ok-push-row.ensures.commands,
+  one_more_lem [] _ _ (next_row c.args.inputs) c.loop-state.state c.loop-state.invariant.0 c.in_ok-push_row.ensures.nexts,
+  one_more_lem [] _ _ (command_row c.args.case c.args.inputs) c.loop-state.state c.loop-state.invariant.1 c.in_ok-push_row.ensures.commands,
 )

@@ -5,5 +5,5 @@ use Rattle.bridge.proofs.buffers.push_all.Given as goal
 -- what is left to add makes the whole
 abbrev pub invariant-loop-item : goal.invariant-loop-item
 invariant-loop-item g l =
-    string_bytes l.text ++ all_text g.T-as-Item.words (drop l.item-index l.items)
-    ≡ string_bytes l.initial.text ++ all_text g.T-as-Item.words l.items
+    string_bytes l.text ++ all_text g.T.Item.words (drop l.item-index l.items)
+    ≡ string_bytes l.initial.text ++ all_text g.T.Item.words l.items

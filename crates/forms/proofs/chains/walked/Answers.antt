@@ -13,7 +13,7 @@ pub walk-preserved : goal.walk-preserved
 walk-preserved c =
     let up = c.walk-test.ensures in
     let p = at_passed c.args.bytes.now c.args.state c.args.input c.walk.new c.walk.link
-    c.record-at-record.result c.record-at-record.ensures up.0 (omega arith) (sym c.if-covers.ensures) in
+    c.record_at-record.result c.record_at-record.ensures up.0 (omega arith) (sym c.if-covers.ensures) in
     (omega arith, sym p ∙ c.walk.invariant.1)
 
 pub returns-then-covers : goal.returns-then-covers
@@ -21,9 +21,9 @@ returns-then-covers c =
     let bs = c.args.bytes.now in
     let up = c.walk-test.ensures in
     let p = at_covering bs c.args.state c.args.input c.walk.new c.walk.link
-    c.record-at-record.result c.record-at-record.ensures up.0 (omega arith) (sym c.if-covers.ensures) in
-    let q = ap (λ n. record_cell n c.args.state c.args.input c.walk.link c.record-at-record.result) c.number-at.ensures in
-    c.cell-of.ensures ∙ (q ∙ (sym p ∙ c.walk.invariant.1))
+    c.record_at-record.result c.record_at-record.ensures up.0 (omega arith) (sym c.if-covers.ensures) in
+    let q = ap (λ n. record_cell n c.args.state c.args.input c.walk.link c.record_at-record.result) c.number_at.ensures in
+    c.cell_of.ensures ∙ (q ∙ (sym p ∙ c.walk.invariant.1))
 
 pub returns : goal.returns
 returns c =

@@ -14,7 +14,7 @@ returns g c =
     record {
       made = elim c.if-keys-le-MOST_KEYS.branch [
         | then-keys-le-MOST_KEYS w ↦ ap (keymap part) (pad_front _ list _ w.count_is c.pad.ensures)
-        | else-keys-le-MOST_KEYS w ↦ keymap_long part _ c.pad.result list w.count_is (omega (arith, w.if-keys-le-MOST-KEYS.false))
+        | else-keys-le-MOST_KEYS w ↦ keymap_long part _ c.pad.result list w.count_is (omega (arith, w.if-keys-le-MOST_KEYS.false))
       ];
-      part-misfit = keymap_part part kept (g.met.P.Machine.inside c.args.part);
+      part_misfit = keymap_part part kept (g.met.P.Machine.inside c.args.part);
     }

@@ -11,7 +11,7 @@ loop-apart-preserved c =
     let x = c.apart-item.result in
     let i = c.loop-apart.apart-index in
     let size = length-map xs apart_of in
-    ap (λ (t : List ℕ). t ++ aparts_text (drop (i + 1) (map apart_of xs))) c.in-ok-push-apart.ensures
+    ap (λ (t : List ℕ). t ++ aparts_text (drop (i + 1) (map apart_of xs))) c.in_ok-push_apart.ensures
     ∙ each_step apart_text (string_bytes c.loop-apart.text) (map apart_of xs) i (apart_of x) (apart_of x) (omega (arith, c.loop-apart-test.true))
     (ap apart_of c.apart-item.is ∙ sym (get_or-map apart_of xs i x (apart_of x) c.loop-apart-test.true))
     ∙ c.loop-apart.invariant

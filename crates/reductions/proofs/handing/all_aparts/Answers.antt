@@ -11,32 +11,32 @@ use Rattle.reductions.proofs.handing.all_aparts.Goals as goal
 
 pub loop-class-init : goal.loop-class-init
 loop-class-init g c =
-    let m : Mealy = (stage_of g.M.Machine g.row.Out-Output c.args.sheet.now).machine in
+    let m : Mealy = (stage_of g.M.Machine g.M.Out.Output c.args.sheet.now).machine in
     let leaders = c.args.leaders.now in
     let f : ℕ → List Parting = aparts_above m c.args.sheet.now.rounds leaders in
     ap (λ (v : List Apart). map apart_of v ++ each f (range_with_len 0 (length leaders - 0))) c.new-aparts.ensures.items
     ∙ ap (λ (n : ℕ). each f (range_with_len 0 n)) (omega arith)
 
-pub push-aparts-requires : goal.push-aparts-requires
-push-aparts-requires g c =
+pub push_aparts-requires : goal.push_aparts-requires
+push_aparts-requires g c =
     record { kept = c.requires.kept; within = c.loop-class-test.true; few = c.requires.few; told = c.requires.told }
 
-pub returns-in-err-push-aparts : goal.returns-in-err-push-aparts
-returns-in-err-push-aparts g c = IfOk-from_err _ _ c.from-residual.ensures.0
+pub returns-in_err-push_aparts : goal.returns-in_err-push_aparts
+returns-in_err-push_aparts g c = IfOk-from_err _ _ c.from_residual.ensures.0
 
 pub loop-class-preserved : goal.loop-class-preserved
 loop-class-preserved g c =
-    let m : Mealy = (stage_of g.M.Machine g.row.Out-Output c.args.sheet.now).machine in
+    let m : Mealy = (stage_of g.M.Machine g.M.Out.Output c.args.sheet.now).machine in
     let leaders = c.args.leaders.now in
     let f : ℕ → List Parting = aparts_above m c.args.sheet.now.rounds leaders in
     let i = c.loop-class.class in
-    ap (λ (v : List Parting). v ++ each f (range_with_len (0 + (i + 1)) (length leaders - (i + 1)))) c.in-ok-push-aparts.ensures
+    ap (λ (v : List Parting). v ++ each f (range_with_len (0 + (i + 1)) (length leaders - (i + 1)))) c.in_ok-push_aparts.ensures
     ∙ each_next f (map apart_of (vec_items c.loop-class.aparts)) 0 (length leaders) i i c.loop-class-test.true (omega arith)
     ∙ c.loop-class.invariant
 
 pub returns : goal.returns
 returns g c =
-    let m : Mealy = (stage_of g.M.Machine g.row.Out-Output c.args.sheet.now).machine in
+    let m : Mealy = (stage_of g.M.Machine g.M.Out.Output c.args.sheet.now).machine in
     let leaders = c.args.leaders.now in
     let f : ℕ → List Parting = aparts_above m c.args.sheet.now.rounds leaders in
     sym (each_end f (map apart_of (vec_items c.loop-class.aparts)) 0 (length leaders) c.loop-class.class (omega arith))

@@ -8,7 +8,7 @@ use Rattle.reductions.proofs.handing.all_aparts.Given as goal
 -- what is left to add makes the whole
 abbrev pub invariant-loop-class : goal.invariant-loop-class
 invariant-loop-class g l =
-    let m = (stage_of g.M.Machine g.row.Out-Output l.sheet).machine in
+    let m = (stage_of g.M.Machine g.M.Out.Output l.sheet).machine in
     let r = l.sheet.rounds in
     map apart_of (vec_items l.aparts) ++ each (aparts_above m r l.leaders) (range_with_len (0 + l.class) (length l.leaders - l.class))
     ≡ aparts_of m r l.leaders

@@ -10,6 +10,6 @@ loop-c-preserved c =
     let row = c.args.numbering.now in
     let f : ℕ → ℕ = λ class. lowest (length row) (λ s. eqb (get_or row s 0) class) in
     let i = c.loop-c.c in
-    pushed (c.first-of.result ∷ []) c.loop-c.invariant c.in-ok-push.was c.push.ensures.items
-    ∙ ap (λ (x : ℕ). map f (range_with_len 0 i) ++ (x ∷ [])) c.first-of.ensures
+    pushed (c.first_of.result ∷ []) c.loop-c.invariant c.in_ok-push.was c.push.ensures.items
+    ∙ ap (λ (x : ℕ). map f (range_with_len 0 i) ++ (x ∷ [])) c.first_of.ensures
     ∙ sym (map-range_with_len_more f 0 i i (omega arith))

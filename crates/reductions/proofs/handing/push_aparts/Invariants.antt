@@ -7,7 +7,7 @@ use Rattle.reductions.proofs.handing.push_aparts.Given as goal
 -- what is left to add makes the whole
 abbrev pub invariant-loop-other : goal.invariant-loop-other
 invariant-loop-other g l =
-    let m = (stage_of g.M.Machine g.row.Out-Output l.sheet).machine in
+    let m = (stage_of g.M.Machine g.M.Out.Output l.sheet).machine in
     let r = l.sheet.rounds in
     map apart_of (vec_items l.aparts) ++ map (apart_at m r l.leaders l.class) (range_with_len l.other (length l.leaders - l.other))
     ≡ map apart_of (vec_items l.initial.aparts) ++ aparts_above m r l.leaders l.class

@@ -9,12 +9,12 @@ use Rattle.reductions.proofs.handing.settled.Goals as goal
 
 pub unreachable-requires : goal.unreachable-requires
 unreachable-requires g c =
-    ok≢err _ _ (sym (settles g.row.Out-Output.key (g.M.Machine.means c.args.machine) c.requires.sound)
+    ok≢err _ _ (sym (settles g.M.Out.Output.key (g.M.Machine.means c.args.machine) c.requires.sound)
     ∙ ap settle_reply (sym c.open-sheet.ensures.stage) ∙ sym (c.settle.ensures.answer c.open-sheet.ensures.kept) ∙ c.in_default.is)
 
 pub returns : goal.returns
 returns g c =
-    let key = g.row.Out-Output.key in
+    let key = g.M.Out.Output.key in
     let m = g.M.Machine.means c.args.machine in
     let opened = c.open-sheet.ensures.stage in
     let a = c.in-Ok.settling in
@@ -24,7 +24,7 @@ returns g c =
       same = c.settle.ensures.same ∙ c.open-sheet.ensures.same;
       stage =
           c.settle.ensures.stage
-          ∙ ap (λ (r : Result Settling Refusal). stage_settled r (stage_of g.M.Machine g.row.Out-Output c.open-sheet.result)) c.in-Ok.is
+          ∙ ap (λ (r : Result Settling Refusal). stage_settled r (stage_of g.M.Machine g.M.Out.Output c.open-sheet.result)) c.in-Ok.is
           ∙ ap (stage_settled (Ok a)) opened ∙ is.1;
       settling = is.0;
     }

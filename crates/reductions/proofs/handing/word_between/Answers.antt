@@ -7,23 +7,23 @@ use Rattle.sheet.specs.Stage.{Stage, stage_of}
 use Rattle.reductions.proofs.Written.{word_written}
 use Rattle.reductions.proofs.handing.word_between.Goals as goal
 
-pub returns-in-err-word : goal.returns-in-err-word
-returns-in-err-word g c = IfOk-from_err _ _ c.from-residual.ensures.0
+pub returns-in_err-word : goal.returns-in_err-word
+returns-in_err-word g c = IfOk-from_err _ _ c.from_residual.ensures.0
 
 pub unreachable-requires : goal.unreachable-requires
 unreachable-requires g c =
-    let t : Stage = stage_of g.M.Machine g.row.Out-Output c.args.sheet.now in
-    let size : length c.deref-mut.result.now ≡ 128 =
-    omega (arith, c.deref-mut.ensures.len, c.in-ok-word.ensures.len) in
+    let t : Stage = stage_of g.M.Machine g.M.Out.Output c.args.sheet.now in
+    let size : length c.deref_mut.result.now ≡ 128 =
+    omega (arith, c.deref_mut.ensures.len, c.in_ok-word.ensures.len) in
     true≢false (sym c.requires.told
     ∙ ap (λ (n : ℕ). is_ok (word_reply t c.args.s c.args.t n)) (sym size)
     ∙ ap is_ok (sym (c.word.ensures.answer c.requires.kept) ∙ c.in_default.is))
 
 pub returns : goal.returns
 returns g c =
-    let t : Stage = stage_of g.M.Machine g.row.Out-Output c.args.sheet.now in
+    let t : Stage = stage_of g.M.Machine g.M.Out.Output c.args.sheet.now in
     let n = c.in-Ok.length in
-    let whole = take_at c.word.new.out _ _ (omega (arith, c.word.auto.out, c.deref-mut.ensures.len)) in
+    let whole = take_at c.word.new.out _ _ (omega (arith, c.word.auto.out, c.deref_mut.ensures.len)) in
     c.truncate.ensures.items ∙ ap (take n) whole
-    ∙ word_written t c.args.s c.args.t n c.deref-mut.result.now c.word.new.out
+    ∙ word_written t c.args.s c.args.t n c.deref_mut.result.now c.word.new.out
     (sym c.in-Ok.is ∙ c.word.ensures.answer c.requires.kept) (c.word.ensures.buffer c.requires.kept)

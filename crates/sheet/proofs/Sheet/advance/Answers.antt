@@ -15,11 +15,11 @@ use Rattle.sheet.proofs.Sheet.advance.Goals as goal
 pub returns-then-refined-self : goal.returns-then-refined-self
 returns-then-refined-self g c =
     let a = c.args.self.now in
-    let key = g.row.Out-Output.key in
+    let key = g.M.Out.Output.key in
     let m = g.M.Machine.means a.machine in
     let N : Mealy = mealy_of key m in
     let t : Stage = stage_at key m a.rounds a.settled in
-    let done : Kept g.M.Machine g.row.Out-Output a → sound_by m ≡ true → Settled N a.rounds = λ k so.
+    let done : Kept g.M.Machine g.M.Out.Output a → sound_by m ≡ true → Settled N a.rounds = λ k so.
     let next = c.refine-refined.ensures.next a.rounds so (kept_held key m (g.met.M.Machine.sizes a.machine) a k a.rounds (omega arith)) in
     settled_from N a.rounds (omega (arith, next.1, parts_are key m a k so, c.if-refined-self.true)) in
     record {
@@ -34,13 +34,13 @@ returns-then-refined-self g c =
 pub returns : goal.returns
 returns g c =
     let a = c.args.self.now in
-    let key = g.row.Out-Output.key in
+    let key = g.M.Out.Output.key in
     let m = g.M.Machine.means a.machine in
     let N : Mealy = mealy_of key m in
     let t : Stage = stage_at key m a.rounds a.settled in
-    let next : Kept g.M.Machine g.row.Out-Output a → sound_by m ≡ true → (c.refine-refined.result.row ≡ row_of N (suc a.rounds)) × (c.refine-refined.result.parts ≡ block_count N (suc a.rounds)) = λ k so.
+    let next : Kept g.M.Machine g.M.Out.Output a → sound_by m ≡ true → (c.refine-refined.result.row ≡ row_of N (suc a.rounds)) × (c.refine-refined.result.parts ≡ block_count N (suc a.rounds)) = λ k so.
     c.refine-refined.ensures.next a.rounds so (kept_held key m (g.met.M.Machine.sizes a.machine) a k a.rounds (omega arith)) in
-    let goes_on : Kept g.M.Machine g.row.Out-Output a → sound_by m ≡ true → Settled N a.rounds → ⊥ = λ k so done.
+    let goes_on : Kept g.M.Machine g.M.Out.Output a → sound_by m ≡ true → Settled N a.rounds → ⊥ = λ k so done.
     omega (arith, (next k so).1, parts_are key m a k so, c.if-refined-self.false, settled_count N a.rounds done) in
     record {
       same = refl;

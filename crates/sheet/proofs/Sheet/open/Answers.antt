@@ -13,7 +13,7 @@ returns g c =
       same = refl;
       stage = refl;
       sound = decides;
-      kept = kept_fresh g.row.Out-Output.key m (g.met.M.Machine.sizes x) _
-          (c.is-ok-sound.ensures.value ∙ tests_agree (is_ok c.check.result) (sound_by m) _ c.check.ensures.accepts decides)
+      kept = kept_fresh g.M.Out.Output.key m (g.met.M.Machine.sizes x) _
+          (c.is_ok-sound.ensures.value ∙ tests_agree (is_ok c.check.result) (sound_by m) _ c.check.ensures.accepts decides)
           refl refl refl c.blank.ensures;
     }

@@ -10,7 +10,7 @@ use Rattle.sheet.proofs.Sheet.round.Goals as goal
 pub returns-then-not-self : goal.returns-then-not-self
 returns-then-not-self g c =
     let a = c.args.self.now in
-    let t : Stage = stage_at g.row.Out-Output.key (g.M.Machine.means a.machine) a.rounds a.settled in
+    let t : Stage = stage_at g.M.Out.Output.key (g.M.Machine.means a.machine) a.rounds a.settled in
     record {
       same = refl;
       refused = refl;
@@ -23,7 +23,7 @@ returns-then-not-self g c =
 pub returns-then-over : goal.returns-then-over
 returns-then-over g c =
     let a = c.args.self.now in
-    let t : Stage = stage_at g.row.Out-Output.key (g.M.Machine.means a.machine) a.rounds a.settled in
+    let t : Stage = stage_at g.M.Out.Output.key (g.M.Machine.means a.machine) a.rounds a.settled in
     record {
       same = refl;
       refused = refl;
@@ -36,10 +36,10 @@ returns-then-over g c =
 pub returns : goal.returns
 returns g c =
     let a = c.args.self.now in
-    let key = g.row.Out-Output.key in
+    let key = g.M.Out.Output.key in
     let m = g.M.Machine.means a.machine in
     let t : Stage = stage_at key m a.rounds a.settled in
-    let answer : Kept g.M.Machine g.row.Out-Output a → Ok c.advance.result ≡ round_reply t = λ k.
+    let answer : Kept g.M.Machine g.M.Out.Output a → Ok c.advance.result ≡ round_reply t = λ k.
     c.advance.ensures.answer k c.if-not-self.false c.if-over.false in
     record {
       same = c.advance.ensures.same;

@@ -13,7 +13,7 @@ use Rattle.sheet.proofs.Sheet.settle.Goals as goal
 pub returns-then-not-self : goal.returns-then-not-self
 returns-then-not-self g c =
     let a = c.args.self.now in
-    let t : Stage = stage_at g.row.Out-Output.key (g.M.Machine.means a.machine) a.rounds a.settled in
+    let t : Stage = stage_at g.M.Out.Output.key (g.M.Machine.means a.machine) a.rounds a.settled in
     record {
       same = refl;
       refused = refl;
@@ -26,7 +26,7 @@ returns-then-not-self g c =
 pub returns-then-self : goal.returns-then-self
 returns-then-self g c =
     let a = c.args.self.now in
-    let t : Stage = stage_at g.row.Out-Output.key (g.M.Machine.means a.machine) a.rounds a.settled in
+    let t : Stage = stage_at g.M.Out.Output.key (g.M.Machine.means a.machine) a.rounds a.settled in
     record {
       same = refl;
       refused = refl;
@@ -40,7 +40,7 @@ pub rounds-preserved : goal.rounds-preserved
 rounds-preserved g c =
     let inv = c.rounds.invariant in
     let s = c.rounds.self in
-    let t : Stage = stage_of g.M.Machine g.row.Out-Output s in
+    let t : Stage = stage_of g.M.Machine g.M.Out.Output s in
     let after = c.advance.ensures.stage ∙ ap (λ (r : Round). stage_after (Ok r) t) c.in-Split.is in
     let rounds : c.advance.new.self.rounds ≡ s.rounds + 1 = ap (λ (x : Stage). x.rounds) after in (
       c.advance.ensures.same ∙ inv.0,
@@ -54,7 +54,7 @@ rounds-preserved g c =
 pub returns : goal.returns
 returns g c =
     let a = c.args.self.now in
-    let key = g.row.Out-Output.key in
+    let key = g.M.Out.Output.key in
     let m = g.M.Machine.means a.machine in
     let sizes = g.met.M.Machine.sizes a.machine in
     let t : Stage = stage_at key m a.rounds a.settled in
@@ -63,9 +63,9 @@ returns g c =
     let f = c.advance.new.self in
     let p : s.machine ≡ a.machine = inv.0 in
     let q : f.machine ≡ a.machine = c.advance.ensures.same ∙ p in
-    let after = c.advance.ensures.stage ∙ ap (λ (r : Round). stage_after (Ok r) (stage_of g.M.Machine g.row.Out-Output s)) c.in_default.is in
+    let after = c.advance.ensures.stage ∙ ap (λ (r : Round). stage_after (Ok r) (stage_of g.M.Machine g.M.Out.Output s)) c.in_default.is in
     let rounds : f.rounds ≡ s.rounds = ap (λ (x : Stage). x.rounds) after in
-    let answer : Kept g.M.Machine g.row.Out-Output a → Ok (record { rounds = c.rounds.accepted; count = f.parts }) ≡ settle_reply t = λ k.
+    let answer : Kept g.M.Machine g.M.Out.Output a → Ok (record { rounds = c.rounds.accepted; count = f.parts }) ≡ settle_reply t = λ k.
     let so : sound_by m ≡ true = sym k.sounds ∙ c.if-not-self.false in
     let ks : KeptBy key m s = subst (λ (x : g.row.M.Denot). KeptBy key (g.M.Machine.means x) s) p (inv.5 k) in
     let kf : KeptBy key m f = subst (λ (x : g.row.M.Denot). KeptBy key (g.M.Machine.means x) f) q (c.advance.ensures.kept (inv.5 k) inv.1 inv.2) in

@@ -9,7 +9,7 @@ invariant-rounds g l =
     × (l.self.settled ≡ false)
     × (l.self.rounds + 1 ≡ l.initial.self.rounds + l.accepted)
     × (1 ≤ l.accepted)
-    × (Kept g.M.Machine g.row.Out-Output l.initial.self → Kept g.M.Machine g.row.Out-Output l.self)
+    × (Kept g.M.Machine g.M.Out.Output l.initial.self → Kept g.M.Machine g.M.Out.Output l.self)
 
 abbrev pub decreases-rounds : goal.decreases-rounds
 decreases-rounds g l = 128 - l.self.rounds

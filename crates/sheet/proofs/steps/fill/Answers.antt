@@ -4,8 +4,8 @@ use Rattle.sheet.proofs.Copying.{row_below}
 use Rattle.sheet.proofs.Tabling.{found_as, table_filled, front_one}
 use Rattle.sheet.proofs.steps.fill.Goals as goal
 
-pub overflow-cast-x : goal.overflow-cast-x
-overflow-cast-x g c =
+pub overflow_cast-x : goal.overflow_cast-x
+overflow_cast-x g c =
     let q : c.loop-x.x / c.inputs-k.result < 128 = row_below c.loop-x.x c.inputs-k.result 128 (omega (arith, c.inputs-k.ensures, c.requires.few)) (omega (arith, c.inputs-k.ensures, c.requires.few)) in
     omega arith
 
@@ -24,8 +24,8 @@ loop-x-init g c j sound held total = record {
   outputs = record { written = λ y h. absurd (omega arith); rest = refl; size = refl };
 }
 
-pub first-with-s-requires : goal.first-with-s-requires
-first-with-s-requires g c =
+pub first_with-s-requires : goal.first_with-s-requires
+first_with-s-requires g c =
     let x = c.args.machine.now in
     let fits = few_states (g.M.Machine.means x) (g.met.M.Machine.sizes x) in
     omega (arith, c.states-n.ensures)
@@ -36,9 +36,9 @@ returns-in_default g c j sound held total =
     let row : List ℕ = c.args.row.now in
     let x : ℕ = c.loop-x.x in
     let low = subst (λ (z : ℕ). x < z) total c.loop-x-test.true in
-    let is = found_as row x c.first-with-s.result c.states-n.result m.states c.inputs-k.result m.inputs c.first-with-s.ensures c.states-n.ensures c.inputs-k.ensures in
-    absurd (table_filled g.row.Out-Output.key m (g.met.M.Machine.closed c.args.machine.now) sound j row held x c.first-with-s.result low is c.in_default.field-0
-    (ap (λ (z : ℕ). m.entry c.first-with-s.result (x % z)) (sym c.inputs-k.ensures) ∙ sym c.in_default.ensures))
+    let is = found_as row x c.first_with-s.result c.states-n.result m.states c.inputs-k.result m.inputs c.first_with-s.ensures c.states-n.ensures c.inputs-k.ensures in
+    absurd (table_filled g.M.Out.Output.key m (g.met.M.Machine.closed c.args.machine.now) sound j row held x c.first_with-s.result low is c.in_default.field-0
+    (ap (λ (z : ℕ). m.entry c.first_with-s.result (x % z)) (sym c.inputs-k.ensures) ∙ sym c.in_default.ensures))
 
 pub loop-x-preserved : goal.loop-x-preserved
 loop-x-preserved g c j sound held total =
@@ -46,8 +46,8 @@ loop-x-preserved g c j sound held total =
     let row : List ℕ = c.args.row.now in
     let x : ℕ = c.loop-x.x in
     let low = subst (λ (z : ℕ). x < z) total c.loop-x-test.true in
-    let is = found_as row x c.first-with-s.result c.states-n.result m.states c.inputs-k.result m.inputs c.first-with-s.ensures c.states-n.ensures c.inputs-k.ensures in
-    front_one g.row.Out-Output.key m (g.met.M.Machine.closed c.args.machine.now) sound j row held x c.first-with-s.result low is
+    let is = found_as row x c.first_with-s.result c.states-n.result m.states c.inputs-k.result m.inputs c.first_with-s.ensures c.states-n.ensures c.inputs-k.ensures in
+    front_one g.M.Out.Output.key m (g.met.M.Machine.closed c.args.machine.now) sound j row held x c.first_with-s.result low is
     c.args.next.now c.args.outputs.now c.loop-x.next c.loop-x.outputs c.in-Ok.cell
-    (ap (λ (z : ℕ). m.entry c.first-with-s.result (x % z)) (sym c.inputs-k.ensures) ∙ sym c.in-Ok.ensures)
+    (ap (λ (z : ℕ). m.entry c.first_with-s.result (x % z)) (sym c.inputs-k.ensures) ∙ sym c.in-Ok.ensures)
     (omega arith) (omega arith) (c.loop-x.invariant j sound held total)

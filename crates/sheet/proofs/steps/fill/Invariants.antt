@@ -8,6 +8,6 @@ use Rattle.sheet.proofs.steps.fill.Given as goal
 abbrev pub invariant-loop-x : goal.invariant-loop-x
 invariant-loop-x g l =
     (j : ℕ) → sound_by (g.M.Machine.means l.machine) ≡ true
-    → Numbered (mealy_of g.row.Out-Output.key (g.M.Machine.means l.machine)) j l.row
-    → l.total ≡ block_count (mealy_of g.row.Out-Output.key (g.M.Machine.means l.machine)) j * (g.M.Machine.means l.machine).inputs
-    → Front g.row.Out-Output.key (g.M.Machine.means l.machine) j l.x l.initial.next l.initial.outputs l.next l.outputs
+    → Numbered (mealy_of g.M.Out.Output.key (g.M.Machine.means l.machine)) j l.row
+    → l.total ≡ block_count (mealy_of g.M.Out.Output.key (g.M.Machine.means l.machine)) j * (g.M.Machine.means l.machine).inputs
+    → Front g.M.Out.Output.key (g.M.Machine.means l.machine) j l.x l.initial.next l.initial.outputs l.next l.outputs

@@ -13,12 +13,12 @@ loop-i-preserved c =
     let i : ℕ = c.loop-i.i in
     let at : ℕ = c.loop-i.at in
     let place : ℕ = at * lists.inputs + get_or w i 0 in
-    let out = c.command-at-output.ensures ∙ ap (λ (x : List Command). get_or (map (λ (y : Command). y.number) x) place 0) c.deref.ensures.value in
-    let next = c.number-at-at.ensures ∙ ap (λ (x : List ℕ). get_or x place 0) c.deref-in-loop-i.ensures.value in (
-      ap (λ (t : List ℕ). t ++ numbers_text (shows lists c.number-at-at.result (drop (i + 1) w))) c.in-ok-write.ensures.bytes
-          ∙ shows_step lists at w i (string_bytes c.loop-i.text) c.command-at-output.result c.number-at-at.result c.loop-i-test.true out next
+    let out = c.command_at-output.ensures ∙ ap (λ (x : List Command). get_or (map (λ (y : Command). y.number) x) place 0) c.deref.ensures.value in
+    let next = c.number_at-at.ensures ∙ ap (λ (x : List ℕ). get_or x place 0) c.deref-in-loop-i.ensures.value in (
+      ap (λ (t : List ℕ). t ++ numbers_text (shows lists c.number_at-at.result (drop (i + 1) w))) c.in_ok-write.ensures.bytes
+          ∙ shows_step lists at w i (string_bytes c.loop-i.text) c.command_at-output.result c.number_at-at.result c.loop-i-test.true out next
           ∙ c.loop-i.invariant.0,
-      ends_step lists at w i c.number-at-at.result c.loop-i-test.true next ∙ c.loop-i.invariant.1,
+      ends_step lists at w i c.number_at-at.result c.loop-i-test.true next ∙ c.loop-i.invariant.1,
       search rules,
     )
 

@@ -10,5 +10,5 @@ loop-class-preserved c =
     let f : ℕ → List ℕ = mode_text (vec_items c.args.reduction.now.map) in
     let n : ℕ = c.args.reduction.now.table.classes in
     let i : ℕ = c.loop-class.class in
-    ap (λ (t : List ℕ). t ++ each f (range_with_len (0 + (i + 1)) (n - (i + 1)))) (c.in-ok-push-mode.ensures ∙ ap (λ (x : List ℕ). string_bytes c.loop-class.text ++ mode_text x c.loop-class.class) c.deref.ensures.value)
+    ap (λ (t : List ℕ). t ++ each f (range_with_len (0 + (i + 1)) (n - (i + 1)))) (c.in_ok-push_mode.ensures ∙ ap (λ (x : List ℕ). string_bytes c.loop-class.text ++ mode_text x c.loop-class.class) c.deref.ensures.value)
     ∙ each_next f (string_bytes c.loop-class.text) 0 n i i c.loop-class-test.true (omega arith) ∙ c.loop-class.invariant

@@ -14,11 +14,11 @@ returns c =
     let w : List ℕ = c.args.word.now in
     let old : List ℕ = string_bytes c.args.text.now in
     let head : List ℕ = string_bytes c.write.new.self in
-    let ran = c.in-ok-last.ensures in
+    let ran = c.in_ok-last.ensures in
     let front : List ℕ = codes "; " ++ (decimal mode ++ codes " shows") in
     let outs : List ℕ = numbers_text (shows lists mode w) in
-    let last : ℕ = c.in-ok-last.last in
+    let last : ℕ = c.in_ok-last.last in
     let same : front ++ (outs ++ (codes " and is then " ++ decimal last)) ≡ run_text lists mode w =
     ap (λ (x : ℕ). front ++ (outs ++ (codes " and is then " ++ decimal x))) ran.ended ∙ simp append_assoc in
-    let end = joined r head (string_bytes c.push-answers.new.text) _ outs (codes " and is then " ++ decimal last) ran.added c.write-2.ensures.bytes in
-    IfOk-weaker r _ _ (λ _ h. h ∙ ap (λ (t : List ℕ). old ++ t) same) (joined r old head _ front _ c.in-ok-write.ensures.bytes end)
+    let end = joined r head (string_bytes c.push_answers.new.text) _ outs (codes " and is then " ++ decimal last) ran.added c.write-2.ensures.bytes in
+    IfOk-weaker r _ _ (λ _ h. h ∙ ap (λ (t : List ℕ). old ++ t) same) (joined r old head _ front _ c.in_ok-write.ensures.bytes end)

@@ -18,7 +18,7 @@ loop-i-preserved c =
     let i : ℕ = c.loop-i.i in
     let size = length-map xs apart_of in
     let low : i < length xs = omega (arith, v.ok.0, c.len-i-end.ensures, c.loop-i-test.true) in
-    ap (λ (t : List ℕ). t ++ each f (drop (i + 1) (map apart_of xs))) c.in-ok-push-telling.ensures
+    ap (λ (t : List ℕ). t ++ each f (drop (i + 1) (map apart_of xs))) c.in_ok-push_telling.ensures
     ∙ each_step f (string_bytes c.loop-i.text) (map apart_of xs) i (apart_of x) (apart_of x) (omega arith)
     (ap apart_of c.index.ensures ∙ sym (get_or-map apart_of xs i x (apart_of x) low))
     ∙ c.loop-i.invariant

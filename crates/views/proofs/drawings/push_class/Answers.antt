@@ -7,9 +7,9 @@ use Rattle.views.proofs.drawings.push_class.Goals as goal
 
 pub returns : goal.returns
 returns c =
-    let r = c.push-edges.result in
+    let r = c.push_edges.result in
     let x = c.args.reduction.now in
-    let node : List ℕ = string_bytes c.push-node.new.text in
+    let node : List ℕ = string_bytes c.push_node.new.text in
     let old : List ℕ = string_bytes c.args.text.now in
-    let pushed = c.in-ok-push-node.ensures ∙ ap (λ (v : List ℕ). old ++ node_text v c.args.class) c.deref.ensures.value in
-    joined r old node _ (node_text (vec_items x.map) c.args.class) (edges_from (lists_in x) c.args.class) pushed c.push-edges.ensures
+    let pushed = c.in_ok-push_node.ensures ∙ ap (λ (v : List ℕ). old ++ node_text v c.args.class) c.deref.ensures.value in
+    joined r old node _ (node_text (vec_items x.map) c.args.class) (edges_from (lists_in x) c.args.class) pushed c.push_edges.ensures

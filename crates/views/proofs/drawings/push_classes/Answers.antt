@@ -11,5 +11,5 @@ loop-class-preserved c =
     let f : ℕ → List ℕ = class_text (lists_in c.args.reduction.now) in
     let n : ℕ = c.args.reduction.now.table.classes in
     let i : ℕ = c.loop-class.class in
-    ap (λ (t : List ℕ). t ++ each f (range_with_len (0 + (i + 1)) (n - (i + 1)))) c.in-ok-push-class.ensures
+    ap (λ (t : List ℕ). t ++ each f (range_with_len (0 + (i + 1)) (n - (i + 1)))) c.in_ok-push_class.ensures
     ∙ each_next f (string_bytes c.loop-class.text) 0 n i i c.loop-class-test.true (omega arith) ∙ c.loop-class.invariant

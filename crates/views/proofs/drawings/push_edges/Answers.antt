@@ -11,5 +11,5 @@ loop-input-preserved c =
     let f : ℕ → List ℕ = edge_text (lists_in c.args.reduction.now) c.args.class in
     let n : ℕ = c.args.reduction.now.inputs in
     let i : ℕ = c.loop-input.input in
-    ap (λ (t : List ℕ). t ++ each f (range_with_len (0 + (i + 1)) (n - (i + 1)))) c.in-ok-push-edge.ensures
+    ap (λ (t : List ℕ). t ++ each f (range_with_len (0 + (i + 1)) (n - (i + 1)))) c.in_ok-push_edge.ensures
     ∙ each_next f (string_bytes c.loop-input.text) 0 n i i c.loop-input-test.true (omega arith) ∙ c.loop-input.invariant

@@ -14,5 +14,5 @@ returns c =
     let states : List ℕ = members_text c.args.numbering.now class in
     let front : List ℕ = codes "  " ++ (decimal class ++ (codes " [label=\"" ++ (decimal class ++ codes ":"))) in
     let same : front ++ (states ++ codes "\"]\n") ≡ node_text c.args.numbering.now class = simp append_assoc in
-    let end = joined r head (string_bytes c.push-members.new.text) _ states (codes "\"]\n") c.in-ok-push-members.ensures c.write-2.ensures.bytes in
-    IfOk-weaker r _ _ (λ _ h. h ∙ ap (λ (t : List ℕ). old ++ t) same) (joined r old head _ front _ c.in-ok-write.ensures.bytes end)
+    let end = joined r head (string_bytes c.push_members.new.text) _ states (codes "\"]\n") c.in_ok-push_members.ensures c.write-2.ensures.bytes in
+    IfOk-weaker r _ _ (λ _ h. h ∙ ap (λ (t : List ℕ). old ++ t) same) (joined r old head _ front _ c.in_ok-write.ensures.bytes end)

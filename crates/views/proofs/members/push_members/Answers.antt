@@ -10,5 +10,5 @@ loop-s-preserved c =
     let f : ℕ → List ℕ = λ s. member_text (eqb (get_or c.args.numbering.now s 0) c.args.class) s in
     let n : ℕ = length c.args.numbering.now in
     let i : ℕ = c.loop-s.s in
-    ap (λ (t : List ℕ). t ++ each f (range_with_len (0 + (i + 1)) (n - (i + 1)))) c.in-ok-push-member.ensures
+    ap (λ (t : List ℕ). t ++ each f (range_with_len (0 + (i + 1)) (n - (i + 1)))) c.in_ok-push_member.ensures
     ∙ each_next f (string_bytes c.loop-s.text) 0 n i i c.loop-s-test.true (omega arith) ∙ c.loop-s.invariant

@@ -9,8 +9,8 @@ made_so (Err y) P Q f p = tt
 
 pub returns : goal.returns
 returns c =
-    let m = chain_of c.in-ok-open.field-0 in
-    let e = c.in-ok-open.ensures in
+    let m = chain_of c.in_ok-open.field-0 in
+    let e = c.in_ok-open.ensures in
     let r = c.rewritten.result in
     record {
       answer = subst (λ o. Normalised vec_items o r) e c.rewritten.ensures.answer;

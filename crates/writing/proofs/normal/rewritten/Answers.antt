@@ -11,14 +11,14 @@ use Rattle.writing.proofs.normal.rewritten.Goals as goal
 pub returns : goal.returns
 returns c =
     let m = chain_of c.args.chain.now in
-    let out = c.put-chain.new.out in
-    let b = c.chain-length-length.result in
-    let long = needed_is m _ _ b c.states.ensures c.of-plan.ensures.count c.chain-length-length.ensures in
-    let len : length out ≡ c.in-ok-out.out.len = omega (arith, c.put-chain.auto.out, c.deref-mut.ensures.len) in
-    let left : vec_items (with_items c.in-ok-out.out out) ≡ written m =
-    with_items_is c.in-ok-out.out out len ∙ all_is m out _ b long (len ∙ c.in-ok-out.ensures.1) c.put-chain.ensures.bytes in
+    let out = c.put_chain.new.out in
+    let b = c.chain_length-length.result in
+    let long = needed_is m _ _ b c.states.ensures c.of-plan.ensures.count c.chain_length-length.ensures in
+    let len : length out ≡ c.in_ok-out.out.len = omega (arith, c.put_chain.auto.out, c.deref_mut.ensures.len) in
+    let left : vec_items (with_items c.in_ok-out.out out) ≡ written m =
+    with_items_is c.in_ok-out.out out len ∙ all_is m out _ b long (len ∙ c.in_ok-out.ensures.1) c.put_chain.ensures.bytes in
     record {
-      answer = (c.in-ok-check.ensures.answer, left);
-      again = subst (Reopens m) (sym left) c.put-chain.ensures.again;
-      runs = subst LongestRuns (sym left) c.put-chain.ensures.runs;
+      answer = (c.in_ok-check.ensures.answer, left);
+      again = subst (Reopens m) (sym left) c.put_chain.ensures.again;
+      runs = subst LongestRuns (sym left) c.put_chain.ensures.runs;
     }

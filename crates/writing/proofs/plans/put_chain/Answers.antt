@@ -9,9 +9,9 @@ returns g c =
     let met = g.met.M.Machine in
     record {
       bytes = finished m c.states-states.result c.inputs.result c.start.result c.args.plan.now.records
-          c.args.plan.now.heads c.args.out.now c.put-all.new.out c.put-all-2.new.out c.put-rows.new.out
+          c.args.plan.now.heads c.args.out.now c.put_all.new.out c.put_all-2.new.out c.put_rows.new.out
           c.states-states.ensures c.inputs.ensures c.start.ensures c.requires.planned.count c.requires.planned.heads_are
-          c.put-all.ensures c.put-all-2.ensures c.put-rows.ensures c.requires.room;
+          c.put_all.ensures c.put_all-2.ensures c.put_rows.ensures c.requires.room;
       again = reopens m c.requires.sound (met.inside at) (met.closed at);
       runs = longest_runs m c.requires.sound;
     }

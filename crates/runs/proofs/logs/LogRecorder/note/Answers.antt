@@ -13,10 +13,10 @@ returns g c =
     let entry : Entry g.row.O.Denot = entry_of k n c.args.numbers.now c.args.next.now c.args.outputs.now in
     let before : List (Entry g.row.O.Denot) = map entry_at (vec_items c.args.self.now.lines) in
     let after : List (Entry g.row.O.Denot) = map entry_at (vec_items c.push.new.self) in
-    let kept : entry_of k n (vec_items c.in-ok-a.a) (vec_items c.in-ok-b.b) (vec_items c.in-ok-c.c) ≡ entry =
-    ap (λ (z : List ℕ). entry_of k n z (vec_items c.in-ok-b.b) (vec_items c.in-ok-c.c)) c.in-ok-a.ensures.items
-    ∙ ap (λ (z : List ℕ). entry_of k n c.args.numbers.now z (vec_items c.in-ok-c.c)) c.in-ok-b.ensures.items
-    ∙ ap (λ (z : List g.row.O.Denot). entry_of k n c.args.numbers.now c.args.next.now z) c.in-ok-c.ensures.items in
+    let kept : entry_of k n (vec_items c.in_ok-a.a) (vec_items c.in_ok-b.b) (vec_items c.in_ok-c.c) ≡ entry =
+    ap (λ (z : List ℕ). entry_of k n z (vec_items c.in_ok-b.b) (vec_items c.in_ok-c.c)) c.in_ok-a.ensures.items
+    ∙ ap (λ (z : List ℕ). entry_of k n c.args.numbers.now z (vec_items c.in_ok-c.c)) c.in_ok-b.ensures.items
+    ∙ ap (λ (z : List g.row.O.Denot). entry_of k n c.args.numbers.now c.args.next.now z) c.in_ok-c.ensures.items in
     elim c.match-push.branch [
       | in-Ok w ↦
           subst (λ (r : Result (Unit {0}) AllocError). Noted r before after entry) (sym w.result-is)

@@ -14,5 +14,5 @@ returns c =
     let graph : List ℕ = classes_text (lists_in x) in
     let front : List ℕ = codes "digraph reduced {\n  rankdir=LR\n  start [shape=point]\n  start -> " ++ (decimal x.table.start ++ codes "\n") in
     let same : front ++ (graph ++ codes "}\n") ≡ drawing_text (lists_in x) = simp append_assoc in
-    let end = joined r head (string_bytes c.push-classes.new.text) _ graph (codes "}\n") c.in-ok-push-classes.ensures c.write-2.ensures.bytes in
-    IfOk-weaker r _ _ (λ _ h. h ∙ ap (λ (t : List ℕ). old ++ t) same) (joined r old head _ front _ c.in-ok-write.ensures.bytes end)
+    let end = joined r head (string_bytes c.push_classes.new.text) _ graph (codes "}\n") c.in_ok-push_classes.ensures c.write-2.ensures.bytes in
+    IfOk-weaker r _ _ (λ _ h. h ∙ ap (λ (t : List ℕ). old ++ t) same) (joined r old head _ front _ c.in_ok-write.ensures.bytes end)

@@ -4,18 +4,18 @@ use Rattle.writing.specs.Written.{records_before, heads}
 use Rattle.writing.proofs.Counts.{before_le, before_part, count_is, planned_more}
 use Rattle.writing.proofs.plans.Plan.of.Goals as goal
 
-pub first-record-requires : goal.first-record-requires
-first-record-requires g c =
+pub first_record-requires : goal.first_record-requires
+first_record-requires g c =
     let m = g.M.Machine.means c.args.machine.now in
     omega (arith, c.loop-s.invariant.2, before_le m c.loop-s.s c.requires.fits.few_inputs, c.requires.fits.few_states)
 
-pub overflow-add-records : goal.overflow-add-records
-overflow-add-records g c =
+pub overflow_add-records : goal.overflow_add-records
+overflow_add-records g c =
     let m = g.M.Machine.means c.args.machine.now in
     let of = c.of.ensures in
-    let n = count_is m c.loop-s.s _ _ (cells_in c.of.result) of.cells of.inputs c.count-runs-records.ensures in
+    let n = count_is m c.loop-s.s _ _ (cells_in c.of.result) of.cells of.inputs c.count_runs-records.ensures in
     let p = before_part m c.loop-s.s m.states (omega arith) in
-    let h : c.loop-s.records + c.count-runs-records.result < 65536 =
+    let h : c.loop-s.records + c.count_runs-records.result < 65536 =
     omega (arith, c.loop-s.invariant.2, before_le m m.states c.requires.fits.few_inputs, c.requires.fits.few_states) in
     search rules
 
@@ -23,9 +23,9 @@ pub loop-s-preserved : goal.loop-s-preserved
 loop-s-preserved g c =
     let m = g.M.Machine.means c.args.machine.now in
     let of = c.of.ensures in
-    let n = count_is m c.loop-s.s _ _ (cells_in c.of.result) of.cells of.inputs c.count-runs-records.ensures in
+    let n = count_is m c.loop-s.s _ _ (cells_in c.of.result) of.cells of.inputs c.count_runs-records.ensures in
     let room : c.loop-s.s < length c.loop-s.heads = omega (arith, c.loop-s.invariant.0, c.requires.fits.few_states) in
-    let p = planned_more m c.loop-s.s _ _ _ c.loop-s.heads room c.loop-s.invariant.2 c.first-record.ensures n
+    let p = planned_more m c.loop-s.s _ _ _ c.loop-s.heads room c.loop-s.invariant.2 c.first_record.ensures n
     c.loop-s.invariant.1 in
     (simp length-set c.loop-s.invariant.0, p.0, p.1)
 

@@ -2,10 +2,10 @@ use Rattle.std.proofs.Common.{◌≡◌, suc, ◌+◌, ◌-◌, ◌<◌, sym, �
 use Rattle.writing.specs.Runs.{cells_in}
 use Rattle.writing.proofs.RunSteps.{runs_le, count_on, count_end}
 use Rattle.writing.proofs.rows.Row.count_runs.Goals as goal
-use Rattle.writing.proofs.rows.Row.count_runs.Goals.{then-ends-run, else-ends-run}
+use Rattle.writing.proofs.rows.Row.count_runs.Goals.{then-ends_run, else-ends_run}
 
-pub overflow-add-count : goal.overflow-add-count
-overflow-add-count c =
+pub overflow_add-count : goal.overflow_add-count
+overflow_add-count c =
     let k = c.args.self.now.inputs in
     let h : c.loop-i.count + 1 < 65536 = omega (arith, runs_le (cells_in c.args.self.now) k 0 0 k) in
     search rules
@@ -16,7 +16,7 @@ loop-i-preserved c =
     let k = c.args.self.now.inputs in
     let i = c.loop-i.i in
     let e : k - i ≡ suc (k - (i + 1)) = omega arith in
-    elim c.if-ends-run.branch [
-      | then-ends-run w ↦ omega (arith, w.count_is, count_end row k 0 i _ _ e (sym w.if-ends-run.ensures))
-      | else-ends-run w ↦ omega (arith, w.count_is, count_on row k 0 i _ _ e (sym w.if-ends-run.ensures))
+    elim c.if-ends_run.branch [
+      | then-ends_run w ↦ omega (arith, w.count_is, count_end row k 0 i _ _ e (sym w.if-ends_run.ensures))
+      | else-ends_run w ↦ omega (arith, w.count_is, count_on row k 0 i _ _ e (sym w.if-ends_run.ensures))
     ]

@@ -4,7 +4,7 @@ use Rattle.writing.proofs.Kept.{kept_none, kept_more, kept_all}
 use Rattle.writing.proofs.rows.Row.of.Goals as goal
 
 pub loop-i-init : goal.loop-i-init
-loop-i-init g c = kept_none _ _ c.no-cells-cells.ensures
+loop-i-init g c = kept_none _ _ c.no_cells-cells.ensures
 
 pub loop-i-preserved : goal.loop-i-preserved
 loop-i-preserved g c = kept_more _ _ c.loop-i.i _ (omega (arith, c.requires.sound.fits.few_inputs)) c.cell.ensures c.loop-i.invariant
