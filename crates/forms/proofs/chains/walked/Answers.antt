@@ -12,7 +12,7 @@ use Rattle.forms.proofs.chains.walked.Goals.{then-link-eq0, else-link-eq0}
 pub walk-preserved : goal.walk-preserved
 walk-preserved c =
     let up = c.walk-test.ensures in
-    let p = at_passed c.args.bytes.now c.args.state c.args.input c.walk.new c.walk.link
+    let p = at_passed c.args.bytes.now c.args.state c.args.input c.walk.last c.walk.link
     c.record_at-record.result c.record_at-record.ensures up.0 (omega arith) (sym c.if-covers.ensures) in
     (omega arith, sym p ∙ c.walk.invariant.1)
 
@@ -20,7 +20,7 @@ pub returns-then-covers : goal.returns-then-covers
 returns-then-covers c =
     let bs = c.args.bytes.now in
     let up = c.walk-test.ensures in
-    let p = at_covering bs c.args.state c.args.input c.walk.new c.walk.link
+    let p = at_covering bs c.args.state c.args.input c.walk.last c.walk.link
     c.record_at-record.result c.record_at-record.ensures up.0 (omega arith) (sym c.if-covers.ensures) in
     let q = ap (λ n. record_cell n c.args.state c.args.input c.walk.link c.record_at-record.result) c.number_at.ensures in
     c.cell_of.ensures ∙ (q ∙ (sym p ∙ c.walk.invariant.1))
@@ -29,8 +29,8 @@ pub returns : goal.returns
 returns c =
     let bs = c.args.bytes.now in
     let out = c.walk-test.ensures in
-    let v : follows c.walk.new c.walk.link (count bs) ≡ false = grind (arith, nat_tests) in
+    let v : follows c.walk.last c.walk.link (count bs) ≡ false = grind (arith, nat_tests) in
     let k : c.if-link-eq0.cause ≡ cond (eqb c.walk.link 0) cause.Blank cause.Link =
     elim c.if-link-eq0.branch [ then-link-eq0 w ↦ grind (arith, nat_tests) | else-link-eq0 w ↦ grind (arith, nat_tests) ] in
-    let p = at_end bs c.args.state c.args.input c.walk.new c.walk.link v in
-    ap (λ (z : Cause). fault z c.args.state c.args.input c.walk.new) k ∙ (sym p ∙ c.walk.invariant.1)
+    let p = at_end bs c.args.state c.args.input c.walk.last c.walk.link v in
+    ap (λ (z : Cause). fault z c.args.state c.args.input c.walk.last) k ∙ (sym p ∙ c.walk.invariant.1)

@@ -13,8 +13,8 @@ returns g c =
     let kept = take c.if-keys-le-MOST_KEYS.count c.pad.result in
     record {
       made = elim c.if-keys-le-MOST_KEYS.branch [
-        | then-keys-le-MOST_KEYS w ↦ ap (keymap part) (pad_front _ list _ w.count_is c.pad.ensures)
-        | else-keys-le-MOST_KEYS w ↦ keymap_long part _ c.pad.result list w.count_is (omega (arith, w.if-keys-le-MOST_KEYS.false))
+        | then-keys-le-MOST_KEYS w ↦ ap (keymap part) (pad_front _ list _ w.count-is c.pad.ensures)
+        | else-keys-le-MOST_KEYS w ↦ keymap_long part _ c.pad.result list w.count-is (omega (arith, w.if-keys-le-MOST_KEYS.false))
       ];
       part_misfit = keymap_part part kept (g.met.P.Machine.inside c.args.part);
     }

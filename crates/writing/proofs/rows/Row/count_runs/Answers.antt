@@ -17,6 +17,6 @@ loop-i-preserved c =
     let i = c.loop-i.i in
     let e : k - i ≡ suc (k - (i + 1)) = omega arith in
     elim c.if-ends_run.branch [
-      | then-ends_run w ↦ omega (arith, w.count_is, count_end row k 0 i _ _ e (sym w.if-ends_run.ensures))
-      | else-ends_run w ↦ omega (arith, w.count_is, count_on row k 0 i _ _ e (sym w.if-ends_run.ensures))
+      | then-ends_run w ↦ omega (arith, w.count-is, count_end row k 0 i _ _ e (sym w.if-ends_run.ensures))
+      | else-ends_run w ↦ omega (arith, w.count-is, count_on row k 0 i _ _ e (sym w.if-ends_run.ensures))
     ]
