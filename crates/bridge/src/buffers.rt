@@ -5,7 +5,6 @@ ghost use Rattle.bridge.specs.Items.{byte_at, number_at, command_at, move_at, nu
 
 use machine::{Command, WheelMove};
 use std::alloc::{AllocError, Global};
-use std::fmt;
 
 /// What a buffer holds: made from its place before a call, written as text after it.
 pub(crate) trait Item: Copy {
@@ -16,7 +15,7 @@ pub(crate) trait Item: Copy {
     fn made_at(place: u16) -> Self
         ensures { result ≡ at place };
 
-    fn push(&self, text: &mut String) -> fmt::Result
+    fn push(&self, text: &mut String) -> Result<(), AllocError>
         ensures { OnOk result (string_bytes text.new ≡ string_bytes text.old ++ words self.now) };
 }
 
@@ -29,7 +28,7 @@ impl Item for u8 {
         255 - (place % 256) as u8
     }
 
-    fn push(&self, text: &mut String) -> fmt::Result {
+    fn push(&self, text: &mut String) -> Result<(), AllocError> {
         let number = *self;
         write!(text, " {number}")
     }
@@ -44,7 +43,7 @@ impl Item for u16 {
         65535 - place
     }
 
-    fn push(&self, text: &mut String) -> fmt::Result {
+    fn push(&self, text: &mut String) -> Result<(), AllocError> {
         let number = *self;
         write!(text, " {number}")
     }
@@ -61,7 +60,7 @@ impl Item for Command {
         }
     }
 
-    fn push(&self, text: &mut String) -> fmt::Result {
+    fn push(&self, text: &mut String) -> Result<(), AllocError> {
         let number = self.number;
         write!(text, " {number}")
     }
@@ -81,7 +80,7 @@ impl Item for WheelMove {
         }
     }
 
-    fn push(&self, text: &mut String) -> fmt::Result {
+    fn push(&self, text: &mut String) -> Result<(), AllocError> {
         let WheelMove { lift, gamma, gain } = *self;
         write!(text, " {lift}/{gamma}/{gain}")
     }
@@ -99,7 +98,7 @@ pub(crate) fn buffer<T: Item>(heap: Global, room: u16) -> Result<Vec<T>, AllocEr
 }
 
 /// Adds the items of a buffer to a text.
-pub(crate) fn push_all<T: Item>(text: &mut String, items: &[T]) -> fmt::Result
+pub(crate) fn push_all<T: Item>(text: &mut String, items: &[T]) -> Result<(), AllocError>
     ensures { OnOk result (string_bytes text.new ≡ string_bytes text.old ++ all_text T.Item.words items.now) }
 {
     for item in items {

@@ -5,11 +5,12 @@ ghost use Rattle.bridge.specs.Lines.{Grown, refusal_line, round_line, settle_lin
 use crate::buffers::Item;
 use machine::{Cell, CheckRefusal, Fault};
 use sheet::{Pair, Refusal, Round, Settling, Table};
+use std::alloc::AllocError;
 use std::fmt;
 use writing::WriteRefusal;
 
 /// The cause at the bottom of a fault, and the fault in words, with its path of sides.
-fn push_fault<F: Fault + fmt::Display>(text: &mut String, fault: &F) -> fmt::Result
+fn push_fault<F: Fault + fmt::Display>(text: &mut String, fault: &F) -> Result<(), AllocError>
     ensures { OnOk result (Grown (fault_line (F.Fault.root fault.now) (F.Display.output fault.now)) (string_bytes text.old) (string_bytes text.new)) }
 {
     let cause = fault.cause().number();
@@ -19,7 +20,7 @@ fn push_fault<F: Fault + fmt::Display>(text: &mut String, fault: &F) -> fmt::Res
 pub(crate) fn push_entry<O: Item, F: Fault + fmt::Display>(
     text: &mut String,
     entry: &Result<Cell<O>, F>,
-) -> fmt::Result {
+) -> Result<(), AllocError> {
     match entry {
         Ok(cell) => {
             let next = cell.next;
@@ -34,7 +35,7 @@ pub(crate) fn push_entry<O: Item, F: Fault + fmt::Display>(
 pub(crate) fn push_check_refusal<F: Fault + fmt::Display>(
     text: &mut String,
     refusal: &CheckRefusal<F>,
-) -> fmt::Result {
+) -> Result<(), AllocError> {
     let number = refusal.number();
     write!(text, "refused {number} ")?;
     match refusal {
@@ -53,7 +54,7 @@ pub(crate) fn push_check_refusal<F: Fault + fmt::Display>(
 pub(crate) fn push_check<F: Fault + fmt::Display>(
     text: &mut String,
     checked: &Result<(), CheckRefusal<F>>,
-) -> fmt::Result {
+) -> Result<(), AllocError> {
     match checked {
         Ok(_) => write!(text, "sound\n"),
         Err(refusal) => push_check_refusal(text, refusal),
@@ -63,7 +64,7 @@ pub(crate) fn push_check<F: Fault + fmt::Display>(
 pub(crate) fn push_write<F: Fault + fmt::Display>(
     text: &mut String,
     written: &Result<usize, WriteRefusal<F>>,
-) -> fmt::Result {
+) -> Result<(), AllocError> {
     match written {
         Ok(count) => write!(text, "{count}\n"),
         Err(WriteRefusal::Unsound(refusal)) => push_check_refusal(text, refusal),
@@ -71,7 +72,7 @@ pub(crate) fn push_write<F: Fault + fmt::Display>(
     }
 }
 
-fn push_refusal(text: &mut String, refusal: Refusal) -> fmt::Result
+fn push_refusal(text: &mut String, refusal: Refusal) -> Result<(), AllocError>
     ensures { OnOk result (string_bytes text.new ≡ string_bytes text.old ++ refusal_line refusal) }
 {
     let number = refusal.number();
@@ -81,7 +82,7 @@ fn push_refusal(text: &mut String, refusal: Refusal) -> fmt::Result
     }
 }
 
-pub(crate) fn push_round(text: &mut String, round: Result<Round, Refusal>) -> fmt::Result
+pub(crate) fn push_round(text: &mut String, round: Result<Round, Refusal>) -> Result<(), AllocError>
     ensures { OnOk result (string_bytes text.new ≡ string_bytes text.old ++ round_line round) }
 {
     match round {
@@ -91,7 +92,7 @@ pub(crate) fn push_round(text: &mut String, round: Result<Round, Refusal>) -> fm
     }
 }
 
-pub(crate) fn push_settling(text: &mut String, settling: Result<Settling, Refusal>) -> fmt::Result
+pub(crate) fn push_settling(text: &mut String, settling: Result<Settling, Refusal>) -> Result<(), AllocError>
     ensures { OnOk result (string_bytes text.new ≡ string_bytes text.old ++ settle_line settling) }
 {
     match settling {
@@ -100,7 +101,7 @@ pub(crate) fn push_settling(text: &mut String, settling: Result<Settling, Refusa
     }
 }
 
-fn push_told(text: &mut String, pair: Pair) -> fmt::Result
+fn push_told(text: &mut String, pair: Pair) -> Result<(), AllocError>
     ensures { OnOk result (string_bytes text.new ≡ string_bytes text.old ++ told_line pair) }
 {
     match pair {
@@ -110,7 +111,7 @@ fn push_told(text: &mut String, pair: Pair) -> fmt::Result
     }
 }
 
-pub(crate) fn push_pair(text: &mut String, pair: Result<Pair, Refusal>) -> fmt::Result
+pub(crate) fn push_pair(text: &mut String, pair: Result<Pair, Refusal>) -> Result<(), AllocError>
     ensures { OnOk result (string_bytes text.new ≡ string_bytes text.old ++ pair_line pair) }
 {
     match pair {
@@ -119,7 +120,7 @@ pub(crate) fn push_pair(text: &mut String, pair: Result<Pair, Refusal>) -> fmt::
     }
 }
 
-pub(crate) fn push_map(text: &mut String, map: Result<(), Refusal>) -> fmt::Result
+pub(crate) fn push_map(text: &mut String, map: Result<(), Refusal>) -> Result<(), AllocError>
     ensures { OnOk result (string_bytes text.new ≡ string_bytes text.old ++ map_line map) }
 {
     match map {
@@ -128,7 +129,7 @@ pub(crate) fn push_map(text: &mut String, map: Result<(), Refusal>) -> fmt::Resu
     }
 }
 
-pub(crate) fn push_word(text: &mut String, word: Result<usize, Refusal>) -> fmt::Result
+pub(crate) fn push_word(text: &mut String, word: Result<usize, Refusal>) -> Result<(), AllocError>
     ensures { OnOk result (string_bytes text.new ≡ string_bytes text.old ++ word_line word) }
 {
     match word {
@@ -137,7 +138,7 @@ pub(crate) fn push_word(text: &mut String, word: Result<usize, Refusal>) -> fmt:
     }
 }
 
-pub(crate) fn push_table(text: &mut String, table: Result<Table, Refusal>) -> fmt::Result
+pub(crate) fn push_table(text: &mut String, table: Result<Table, Refusal>) -> Result<(), AllocError>
     ensures { OnOk result (string_bytes text.new ≡ string_bytes text.old ++ table_line table) }
 {
     match table {

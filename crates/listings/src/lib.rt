@@ -13,14 +13,13 @@ use machine::Command;
 use reductions::{Reduction, Unreduced, reduce};
 use reports::Report;
 use std::alloc::{AllocError, Global};
-use std::fmt;
 
 /// A way to show a reduced machine.
 pub trait View {
     ghost shown: { Self → Lists → List ℕ };
 
     /// Adds what is shown of a reduction.
-    fn push(&self, text: &mut String, reduction: &Reduction<Command>) -> fmt::Result
+    fn push(&self, text: &mut String, reduction: &Reduction<Command>) -> Result<(), AllocError>
         ensures { OnOk result (string_bytes text.new ≡ string_bytes text.old ++ shown self.now (lists_in reduction.now)) };
 }
 

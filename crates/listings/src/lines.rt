@@ -10,7 +10,7 @@ ghost use Rattle.listings.specs.Lists.{lists_in};
 use crate::View;
 use machine::Command;
 use reductions::{Apart, Reduction};
-use std::fmt;
+use std::alloc::AllocError;
 use texts::push_numbers;
 
 /// The plain listing: sizes, rounds, map, rows, and what tells classes apart.
@@ -20,7 +20,7 @@ pub struct Listing;
 impl View for Listing {
     ghost shown = { λ _. listing_text };
 
-    fn push(&self, text: &mut String, reduction: &Reduction<Command>) -> fmt::Result {
+    fn push(&self, text: &mut String, reduction: &Reduction<Command>) -> Result<(), AllocError> {
         push_sizes(text, reduction)?;
         push_settling(text, reduction)?;
         push_map(text, &reduction.map)?;
@@ -29,7 +29,7 @@ impl View for Listing {
     }
 }
 
-fn push_sizes(text: &mut String, reduction: &Reduction<Command>) -> fmt::Result
+fn push_sizes(text: &mut String, reduction: &Reduction<Command>) -> Result<(), AllocError>
     ensures { OnOk result (string_bytes text.new ≡ string_bytes text.old ++ sizes_text (lists_in reduction.now)) }
 {
     let states = reduction.states;
@@ -38,7 +38,7 @@ fn push_sizes(text: &mut String, reduction: &Reduction<Command>) -> fmt::Result
     write!(text, "states {states} inputs {inputs} start {start}\n")
 }
 
-fn push_settling(text: &mut String, reduction: &Reduction<Command>) -> fmt::Result
+fn push_settling(text: &mut String, reduction: &Reduction<Command>) -> Result<(), AllocError>
     ensures { OnOk result (string_bytes text.new ≡ string_bytes text.old ++ settling_text reduction.now.settling reduction.now.table.start) }
 {
     let rounds = reduction.settling.rounds;
@@ -47,7 +47,7 @@ fn push_settling(text: &mut String, reduction: &Reduction<Command>) -> fmt::Resu
     write!(text, "rounds {rounds} blocks {count} start {start}\n")
 }
 
-fn push_map(text: &mut String, numbering: &[u16]) -> fmt::Result
+fn push_map(text: &mut String, numbering: &[u16]) -> Result<(), AllocError>
     ensures { OnOk result (string_bytes text.new ≡ string_bytes text.old ++ map_text numbering.now) }
 {
     write!(text, "map")?;
@@ -55,7 +55,7 @@ fn push_map(text: &mut String, numbering: &[u16]) -> fmt::Result
     write!(text, "\n")
 }
 
-fn push_rows(text: &mut String, reduction: &Reduction<Command>) -> fmt::Result
+fn push_rows(text: &mut String, reduction: &Reduction<Command>) -> Result<(), AllocError>
     ensures { OnOk result (string_bytes text.new ≡ string_bytes text.old ++ rows_text (lists_in reduction.now)) }
 {
     for class in 0..reduction.table.classes {
@@ -65,7 +65,7 @@ fn push_rows(text: &mut String, reduction: &Reduction<Command>) -> fmt::Result
 }
 
 /// A class, then the next class and the output for each input.
-fn push_row(text: &mut String, reduction: &Reduction<Command>, class: u16) -> fmt::Result
+fn push_row(text: &mut String, reduction: &Reduction<Command>, class: u16) -> Result<(), AllocError>
     ensures { OnOk result (string_bytes text.new ≡ string_bytes text.old ++ row_text (lists_in reduction.now) class) }
 {
     write!(text, "row {class}")?;
@@ -74,7 +74,7 @@ fn push_row(text: &mut String, reduction: &Reduction<Command>, class: u16) -> fm
 }
 
 /// The cells from a place on, one for each input.
-fn push_cells(text: &mut String, reduction: &Reduction<Command>, first: usize) -> fmt::Result
+fn push_cells(text: &mut String, reduction: &Reduction<Command>, first: usize) -> Result<(), AllocError>
     requires { first < 4294967296 }
     ensures { OnOk result (string_bytes text.new ≡ string_bytes text.old ++ each (cell_text (lists_in reduction.now)) (range_with_len first reduction.now.inputs)) }
 {
@@ -108,7 +108,7 @@ pub fn command_at(commands: &[Command], place: usize) -> u16
     }
 }
 
-fn push_aparts(text: &mut String, aparts: &[Apart]) -> fmt::Result
+fn push_aparts(text: &mut String, aparts: &[Apart]) -> Result<(), AllocError>
     ensures { OnOk result (string_bytes text.new ≡ string_bytes text.old ++ aparts_text (map apart_of aparts.now)) }
 {
     for apart in aparts {
@@ -118,7 +118,7 @@ fn push_aparts(text: &mut String, aparts: &[Apart]) -> fmt::Result
 }
 
 /// Two classes and the word for their lowest states.
-fn push_apart(text: &mut String, apart: &Apart) -> fmt::Result
+fn push_apart(text: &mut String, apart: &Apart) -> Result<(), AllocError>
     ensures { OnOk result (string_bytes text.new ≡ string_bytes text.old ++ apart_text (apart_of apart.now)) }
 {
     let first = apart.first;

@@ -9,11 +9,11 @@ ghost use Rattle.log_texts.specs.Lines.{call_text, refusal_text, round_text, pai
 use machine::Command;
 use runs::{Answer, Call, Line};
 use sheet::{Pair, Refusal, Round};
-use std::fmt;
+use std::alloc::AllocError;
 use texts::push_numbers;
 
 /// Adds a line for an entry of a log: the call, what it was answered, and the buffers that such a call may write, as it left them.
-pub fn push_line(text: &mut String, line: &Line<Command>) -> fmt::Result
+pub fn push_line(text: &mut String, line: &Line<Command>) -> Result<(), AllocError>
     ensures { OnOk result (string_bytes text.new ≡ string_bytes text.old ++ line_text (entry_at line.now)) }
 {
     push_call(text, line.call)?;
@@ -23,7 +23,7 @@ pub fn push_line(text: &mut String, line: &Line<Command>) -> fmt::Result
     write!(text, "\n")
 }
 
-fn push_call(text: &mut String, call: Call) -> fmt::Result
+fn push_call(text: &mut String, call: Call) -> Result<(), AllocError>
     ensures { OnOk result (string_bytes text.new ≡ string_bytes text.old ++ call_text call) }
 {
     match call {
@@ -35,7 +35,7 @@ fn push_call(text: &mut String, call: Call) -> fmt::Result
     }
 }
 
-fn push_refusal(text: &mut String, refusal: Refusal) -> fmt::Result
+fn push_refusal(text: &mut String, refusal: Refusal) -> Result<(), AllocError>
     ensures { OnOk result (string_bytes text.new ≡ string_bytes text.old ++ refusal_text refusal) }
 {
     let number = refusal.number();
@@ -45,7 +45,7 @@ fn push_refusal(text: &mut String, refusal: Refusal) -> fmt::Result
     }
 }
 
-fn push_round(text: &mut String, round: Round) -> fmt::Result
+fn push_round(text: &mut String, round: Round) -> Result<(), AllocError>
     ensures { OnOk result (string_bytes text.new ≡ string_bytes text.old ++ round_text round) }
 {
     match round {
@@ -54,7 +54,7 @@ fn push_round(text: &mut String, round: Round) -> fmt::Result
     }
 }
 
-fn push_pair(text: &mut String, pair: Pair) -> fmt::Result
+fn push_pair(text: &mut String, pair: Pair) -> Result<(), AllocError>
     ensures { OnOk result (string_bytes text.new ≡ string_bytes text.old ++ pair_text pair) }
 {
     match pair {
@@ -64,7 +64,7 @@ fn push_pair(text: &mut String, pair: Pair) -> fmt::Result
     }
 }
 
-fn push_answer(text: &mut String, answer: Answer) -> fmt::Result
+fn push_answer(text: &mut String, answer: Answer) -> Result<(), AllocError>
     ensures { OnOk result (string_bytes text.new ≡ string_bytes text.old ++ answer_text answer) }
 {
     match answer {
@@ -85,7 +85,7 @@ fn push_answer(text: &mut String, answer: Answer) -> fmt::Result
     }
 }
 
-fn push_commands(text: &mut String, commands: &[Command]) -> fmt::Result
+fn push_commands(text: &mut String, commands: &[Command]) -> Result<(), AllocError>
     ensures { OnOk result (string_bytes text.new ≡ string_bytes text.old ++ numbers_text (map number_of commands.now)) }
 {
     for command in commands {
@@ -95,7 +95,7 @@ fn push_commands(text: &mut String, commands: &[Command]) -> fmt::Result
     Ok(())
 }
 
-fn push_buffers(text: &mut String, line: &Line<Command>) -> fmt::Result
+fn push_buffers(text: &mut String, line: &Line<Command>) -> Result<(), AllocError>
     ensures { OnOk result (string_bytes text.new ≡ string_bytes text.old ++ buffers_text (entry_at line.now)) }
 {
     match line.call {
@@ -107,7 +107,7 @@ fn push_buffers(text: &mut String, line: &Line<Command>) -> fmt::Result
     }
 }
 
-fn push_table(text: &mut String, next: &[u16], outputs: &[Command]) -> fmt::Result
+fn push_table(text: &mut String, next: &[u16], outputs: &[Command]) -> Result<(), AllocError>
     ensures { OnOk result (string_bytes text.new ≡ string_bytes text.old ++ table_text next.now outputs.now) }
 {
     push_kept(text, next)?;
@@ -115,7 +115,7 @@ fn push_table(text: &mut String, next: &[u16], outputs: &[Command]) -> fmt::Resu
     push_commands(text, outputs)
 }
 
-fn push_kept(text: &mut String, numbers: &[u16]) -> fmt::Result
+fn push_kept(text: &mut String, numbers: &[u16]) -> Result<(), AllocError>
     ensures { OnOk result (string_bytes text.new ≡ string_bytes text.old ++ kept_text numbers.now) }
 {
     write!(text, " with")?;

@@ -10,6 +10,7 @@ use listings::View;
 use listings::lines::{command_at, number_at};
 use machine::Command;
 use reductions::{Apart, Reduction};
+use std::alloc::AllocError;
 use std::fmt;
 use texts::push_numbers;
 
@@ -20,7 +21,7 @@ pub struct Card;
 impl View for Card {
     ghost shown = { λ _. card_text };
 
-    fn push(&self, text: &mut String, reduction: &Reduction<Command>) -> fmt::Result {
+    fn push(&self, text: &mut String, reduction: &Reduction<Command>) -> Result<(), AllocError> {
         push_modes(text, reduction)?;
         push_tellings(text, reduction)
     }
@@ -31,7 +32,7 @@ pub fn cards_tell_modes()
     ensures { CardTellsModes }
 {}
 
-fn push_modes(text: &mut String, reduction: &Reduction<Command>) -> fmt::Result
+fn push_modes(text: &mut String, reduction: &Reduction<Command>) -> Result<(), AllocError>
     ensures { OnOk result (string_bytes text.new ≡ string_bytes text.old ++ modes_text (lists_in reduction.now)) }
 {
     for class in 0..reduction.table.classes {
@@ -40,7 +41,7 @@ fn push_modes(text: &mut String, reduction: &Reduction<Command>) -> fmt::Result
     Ok(())
 }
 
-fn push_mode(text: &mut String, numbering: &[u16], class: u16) -> fmt::Result
+fn push_mode(text: &mut String, numbering: &[u16], class: u16) -> Result<(), AllocError>
     ensures { OnOk result (string_bytes text.new ≡ string_bytes text.old ++ mode_text numbering.now class) }
 {
     write!(text, "mode {class} is state")?;
@@ -48,7 +49,7 @@ fn push_mode(text: &mut String, numbering: &[u16], class: u16) -> fmt::Result
     write!(text, "\n")
 }
 
-fn push_tellings(text: &mut String, reduction: &Reduction<Command>) -> fmt::Result
+fn push_tellings(text: &mut String, reduction: &Reduction<Command>) -> Result<(), AllocError>
     ensures { OnOk result (string_bytes text.new ≡ string_bytes text.old ++ tellings_text (lists_in reduction.now)) }
 {
     for i in 0..reduction.aparts.len() {
@@ -58,7 +59,7 @@ fn push_tellings(text: &mut String, reduction: &Reduction<Command>) -> fmt::Resu
 }
 
 /// The keys for two modes, and what each of them answers.
-fn push_telling(text: &mut String, reduction: &Reduction<Command>, apart: &Apart) -> fmt::Result
+fn push_telling(text: &mut String, reduction: &Reduction<Command>, apart: &Apart) -> Result<(), AllocError>
     ensures { OnOk result (string_bytes text.new ≡ string_bytes text.old ++ telling_text (lists_in reduction.now) (apart_of apart.now)) }
 {
     let first = apart.first;
@@ -76,7 +77,7 @@ fn push_run(
     reduction: &Reduction<Command>,
     mode: u16,
     word: &[u16],
-) -> fmt::Result
+) -> Result<(), AllocError>
     ensures { OnOk result (string_bytes text.new ≡ string_bytes text.old ++ run_text (lists_in reduction.now) mode word.now) }
 {
     write!(text, "; {mode} shows")?;

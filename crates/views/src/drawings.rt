@@ -8,7 +8,7 @@ use listings::View;
 use listings::lines::{command_at, number_at};
 use machine::Command;
 use reductions::Reduction;
-use std::fmt;
+use std::alloc::AllocError;
 
 /// A node for each class, with the states that it joins, and an edge for each class and input, with the input and the output.
 #[derive(Clone, Copy)]
@@ -17,7 +17,7 @@ pub struct Drawing;
 impl View for Drawing {
     ghost shown = { λ _. drawing_text };
 
-    fn push(&self, text: &mut String, reduction: &Reduction<Command>) -> fmt::Result {
+    fn push(&self, text: &mut String, reduction: &Reduction<Command>) -> Result<(), AllocError> {
         let start = reduction.table.start;
         write!(
             text,
@@ -28,7 +28,7 @@ impl View for Drawing {
     }
 }
 
-fn push_classes(text: &mut String, reduction: &Reduction<Command>) -> fmt::Result
+fn push_classes(text: &mut String, reduction: &Reduction<Command>) -> Result<(), AllocError>
     ensures { OnOk result (string_bytes text.new ≡ string_bytes text.old ++ classes_text (lists_in reduction.now)) }
 {
     for class in 0..reduction.table.classes {
@@ -37,14 +37,14 @@ fn push_classes(text: &mut String, reduction: &Reduction<Command>) -> fmt::Resul
     Ok(())
 }
 
-fn push_class(text: &mut String, reduction: &Reduction<Command>, class: u16) -> fmt::Result
+fn push_class(text: &mut String, reduction: &Reduction<Command>, class: u16) -> Result<(), AllocError>
     ensures { OnOk result (string_bytes text.new ≡ string_bytes text.old ++ class_text (lists_in reduction.now) class) }
 {
     push_node(text, &reduction.map, class)?;
     push_edges(text, reduction, class)
 }
 
-fn push_node(text: &mut String, numbering: &[u16], class: u16) -> fmt::Result
+fn push_node(text: &mut String, numbering: &[u16], class: u16) -> Result<(), AllocError>
     ensures { OnOk result (string_bytes text.new ≡ string_bytes text.old ++ node_text numbering.now class) }
 {
     write!(text, "  {class} [label=\"{class}:")?;
@@ -52,7 +52,7 @@ fn push_node(text: &mut String, numbering: &[u16], class: u16) -> fmt::Result
     write!(text, "\"]\n")
 }
 
-fn push_edges(text: &mut String, reduction: &Reduction<Command>, class: u16) -> fmt::Result
+fn push_edges(text: &mut String, reduction: &Reduction<Command>, class: u16) -> Result<(), AllocError>
     ensures { OnOk result (string_bytes text.new ≡ string_bytes text.old ++ edges_from (lists_in reduction.now) class) }
 {
     for input in 0..reduction.inputs {
@@ -66,7 +66,7 @@ fn push_edge(
     reduction: &Reduction<Command>,
     class: u16,
     input: u16,
-) -> fmt::Result
+) -> Result<(), AllocError>
     ensures { OnOk result (string_bytes text.new ≡ string_bytes text.old ++ edge_text (lists_in reduction.now) class input) }
 {
     let place = class as usize * reduction.inputs as usize + input as usize;

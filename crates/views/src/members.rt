@@ -2,10 +2,10 @@
 ghost use Rattle.std.specs.Prelude.{◌≡◌, ◌++◌, string_bytes, OnOk};
 ghost use Rattle.views.specs.Members.{member_text, members_text};
 
-use std::fmt;
+use std::alloc::AllocError;
 
 /// Adds the states of a class, rising.
-pub(crate) fn push_members(text: &mut String, numbering: &[u16], class: u16) -> fmt::Result
+pub(crate) fn push_members(text: &mut String, numbering: &[u16], class: u16) -> Result<(), AllocError>
     ensures { OnOk result (string_bytes text.new ≡ string_bytes text.old ++ members_text numbering.now class) }
 {
     for s in 0..numbering.len() {
@@ -15,7 +15,7 @@ pub(crate) fn push_members(text: &mut String, numbering: &[u16], class: u16) -> 
 }
 
 /// Adds a state that is one.
-fn push_member(text: &mut String, state: usize, member: bool) -> fmt::Result
+fn push_member(text: &mut String, state: usize, member: bool) -> Result<(), AllocError>
     ensures { OnOk result (string_bytes text.new ≡ string_bytes text.old ++ member_text member state) }
 {
     if member {

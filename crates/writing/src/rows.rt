@@ -51,8 +51,8 @@ fn same(a: Cell<Command>, b: Cell<Command>) -> bool
 
 /// The link of record `number`, whose run ends at `to`: only the last run of a state has no other behind it.
 fn link(inputs: u16, to: u16, number: u16) -> u16
-    requires to_lt_inputs { to < inputs }
-    requires number_bound { number ≤ 4096 }
+    requires below { to < inputs }
+    requires few { number ≤ 4096 }
     ensures { result ≡ (if nat_lt (to + 1) inputs then number + 1 else 0) }
 {
     if to + 1 < inputs { number + 1 } else { 0 }

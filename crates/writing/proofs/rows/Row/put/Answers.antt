@@ -10,7 +10,7 @@ link-link-requires c =
     let i = c.loop-to.to in
     let e : k - i ≡ suc (k - (i + 1)) = omega arith in
     let f = count_end (cells_in c.args.self.now) k c.loop-to.from i _ _ e (sym c.if-ends_run.ensures) in
-    (c.loop-to-test.true, omega (arith, c.loop-to.invariant.counted, c.requires.counted))
+    record { below = c.loop-to-test.true; few = omega (arith, c.loop-to.invariant.counted, c.requires.counted) }
 
 pub put_record-requires : goal.put_record-requires
 put_record-requires c =
