@@ -10,7 +10,7 @@ use std::alloc::{AllocFailed, Global};
 use std::{fmt, io};
 
 /// What can go wrong on the way: a part that does not open, no memory, or a broken output.
-#[derive(Drop)]
+#[derive(Debug, Drop)]
 enum Trouble {
     Open(OpenRefusal),
     Memory,
