@@ -92,7 +92,10 @@ pub(crate) fn push_round(text: &mut String, round: Result<Round, Refusal>) -> Re
     }
 }
 
-pub(crate) fn push_settling(text: &mut String, settling: Result<Settling, Refusal>) -> Result<(), AllocError>
+pub(crate) fn push_settling(
+    text: &mut String,
+    settling: Result<Settling, Refusal>,
+) -> Result<(), AllocError>
     ensures { OnOk result (string_bytes text.new ≡ string_bytes text.old ++ settle_line settling) }
 {
     match settling {

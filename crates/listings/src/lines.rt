@@ -74,7 +74,11 @@ fn push_row(text: &mut String, reduction: &Reduction<Command>, class: u16) -> Re
 }
 
 /// The cells from a place on, one for each input.
-fn push_cells(text: &mut String, reduction: &Reduction<Command>, first: usize) -> Result<(), AllocError>
+fn push_cells(
+    text: &mut String,
+    reduction: &Reduction<Command>,
+    first: usize,
+) -> Result<(), AllocError>
     requires { first < 4294967296 }
     ensures { OnOk result (string_bytes text.new ≡ string_bytes text.old ++ each (cell_text (lists_in reduction.now)) (range_with_len first reduction.now.inputs)) }
 {

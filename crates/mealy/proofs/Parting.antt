@@ -2,7 +2,7 @@
 use Rattle.std.proofs.Common.{◌≡◌, ℕ, zero, suc, ◌-◌, ◌≤◌, true, false, not, List, length, ⊎_elim, arith}
 use Rattle.std.proofs.lemmas.Bool.{not-true, not-false, not_from_false, false≢true}
 use Rattle.mealy.specs.Mealy.{Mealy}
-use Rattle.mealy.specs.Words.{Tells, Told_within}
+use Rattle.mealy.specs.Words.{Tells, ToldWithin}
 use Rattle.mealy.specs.Partitions.{share, parted}
 use Rattle.mealy.specs.FirstWord.{first_word, word_of}
 use Rattle.mealy.specs.Settling.{ShortWordsSuffice}
@@ -41,14 +41,14 @@ pub apart_parted : (m : Mealy) (j s t : ℕ) → share m j s t ≡ false → par
 apart_parted m j s t apart = lowest_le (suc j) (λ i. not (share m i s t)) j (not_from_false _ apart)
 
 -- A word that tells states apart finds them in different blocks.
-told_parted : (m : Mealy) (j s t : ℕ) → Told_within m j s t → parted m j s t ≤ j
+told_parted : (m : Mealy) (j s t : ℕ) → ToldWithin m j s t → parted m j s t ≤ j
 told_parted m j s t told =
     by_test (share m j s t)
     (λ e. absurd (share_alike m j s t e told.0 told.1.0 told.1.1))
     (apart_parted m j s t)
 
 -- Parted states are told apart by their computed word.
-parted_told : (m : Mealy) (j s t : ℕ) → parted m j s t ≤ j → Told_within m j s t
+parted_told : (m : Mealy) (j s t : ℕ) → parted m j s t ≤ j → ToldWithin m j s t
 parted_told m j s t h =
     let is = first_word_is_shortest m j s t h in
     (word_of m j s t, (omega (arith, is.0), is.1.0))

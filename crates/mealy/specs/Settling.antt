@@ -11,7 +11,7 @@
 --   ShortWordsSuffice      what any word tells apart, one of at most n - 1 inputs does
 use Rattle.std.specs.Prelude.{◌≡◌, ℕ, suc, ◌-◌, ◌<◌, ◌≤◌, true, ◌↔◌, List}
 use Rattle.mealy.specs.Mealy.{Mealy, Closed}
-use Rattle.mealy.specs.Words.{Tells, Told_within, Equivalent}
+use Rattle.mealy.specs.Words.{Tells, ToldWithin, Equivalent}
 use Rattle.mealy.specs.Partitions.{share, blocks, block_count, Settled}
 
 -- P (j + 1) refines P j.
@@ -57,4 +57,4 @@ SettledIsEquivalence =
 abbrev pub ShortWordsSuffice : Type 0
 ShortWordsSuffice =
     (m : Mealy) → Closed m → (s t : ℕ) → s < m.states → t < m.states
-    → (w : List ℕ) → Tells m m s t w → Told_within m (m.states - 1) s t
+    → (w : List ℕ) → Tells m m s t w → ToldWithin m (m.states - 1) s t

@@ -1,13 +1,13 @@
 -- What the round in which two states part, and their word, say about all words.
 use Rattle.std.specs.Prelude.{◌≡◌, ℕ, ◌≤◌, ◌↔◌, List, length}
 use Rattle.mealy.specs.Mealy.{Mealy}
-use Rattle.mealy.specs.Words.{Tells, Told_within}
+use Rattle.mealy.specs.Words.{Tells, ToldWithin}
 use Rattle.mealy.specs.Partitions.{parted}
 use Rattle.mealy.specs.FirstWord.{word_of, Shortest}
 
 -- Two states part by round j exactly where a word of at most j inputs tells them apart.
 abbrev pub PartedIsToldWithin : Type 0
-PartedIsToldWithin = (m : Mealy) (j s t : ℕ) → (parted m j s t ≤ j) ↔ Told_within m j s t
+PartedIsToldWithin = (m : Mealy) (j s t : ℕ) → (parted m j s t ≤ j) ↔ ToldWithin m j s t
 
 -- The round in which two states part is the length of the shortest words that tell them apart.
 abbrev pub PartedIsShortestLength : Type 0

@@ -2,7 +2,7 @@
 --   Word k w                 w is a word over k inputs
 --   answer m s w             the keys of the outputs met from s on
 --   Tells a b s t w          w tells s, a state of a, from t, a state of b
---   Told_within m j s t      some word of at most j inputs tells s from t
+--   ToldWithin m j s t      some word of at most j inputs tells s from t
 --   EquivalentFor m j s t    no word of at most j inputs tells s from t
 --   Equivalent a b s t       no word tells s from t
 --   EquivalentMachines a b   each state of either has an equivalent state in the other
@@ -30,8 +30,8 @@ pub record Tells (a b : Mealy) (s t : ℕ) (w : List ℕ) : Type 0 where
   pub differ : get_or (answer a s w) place [] ≢ slice_index_or (answer b t w) place []
 
 -- Some word of at most j inputs tells the states apart.
-abbrev pub Told_within : Mealy → ℕ → ℕ → ℕ → Type 0
-Told_within m j s t = (w : List ℕ) × ((length w ≤ j) × Tells m m s t w)
+abbrev pub ToldWithin : Mealy → ℕ → ℕ → ℕ → Type 0
+ToldWithin m j s t = (w : List ℕ) × ((length w ≤ j) × Tells m m s t w)
 
 -- No word of at most j inputs tells the states apart.
 abbrev pub EquivalentFor : Mealy → ℕ → ℕ → ℕ → Type 0

@@ -10,7 +10,7 @@ use Rattle.mealy.specs.FirstWord.{word_of}
 use Rattle.mealy.specs.Partitions.{blocks, parted}
 use Rattle.mealy.specs.Reduced.{Smallest}
 use Rattle.mealy.proofs.Parting.{first_word_is_shortest}
-use Rattle.sheet.specs.Means.{Table_means}
+use Rattle.sheet.specs.Means.{TableMeans}
 use Rattle.sheet.specs.Replies.{and_then, map_reply, map_after, word_at, word_reply, word_after}
 use Rattle.sheet.specs.Stage.{Stage, if_ok}
 use Rattle.sheet.specs.Tables.{cell_count, next_at, roomReply, table_reply, table_of, next_after, OutputsAfter, OutputsWritten, table_mealy}
@@ -88,7 +88,7 @@ module _ (t : Stage) (so : t.sound ≡ true) (done : t.settled ≡ true) where
 
     pub table_handed : (a : Table) (next next' : List ℕ) (outs outs' : List O) → length next ≡ cell_count t → length outs ≡ cell_count t
         → Ok a ≡ table_reply t (length next) (length outs) → next' ≡ next_after t (length outs) next
-        → OutputsAfter entry t (Ok a) outs outs' → Table_means key t (Ok a) next' outs'
+        → OutputsAfter entry t (Ok a) outs outs' → TableMeans key t (Ok a) next' outs'
         → HandedTable key entry t a next' outs'
     table_handed a next next' outs outs' ln lo answer written outputs means =
         let heard = table_heard (length next) (length outs) ln lo in

@@ -1,7 +1,7 @@
 -- Each call's answer is right for a call that is it.
 use Rattle.std.proofs.Common.{◌≡◌, ℕ, List, length, ℤ, Result, sym, refl, subst}
 use Rattle.machine.specs.declared.Cell.{Cell}
-use Rattle.sheet.specs.Means.{RoundMeans, PairMeans, MapMeans, WordMeans, Table_means}
+use Rattle.sheet.specs.Means.{RoundMeans, PairMeans, MapMeans, WordMeans, TableMeans}
 use Rattle.sheet.specs.Replies.{round_reply, pair_reply, map_reply, map_after, word_reply, word_after}
 use Rattle.sheet.specs.Stage.{Stage}
 use Rattle.sheet.specs.Tables.{table_reply, next_after, OutputsAfter}
@@ -38,6 +38,6 @@ module _ {O F : Type 0} (key : O → List ℤ) (entry : ℕ → ℕ → Result (
 
   pub right_table : k ≡ call.Table → (numbers next next' : List ℕ) (outs outs' : List O) (a : Result Table Refusal)
       → a ≡ table_reply t (length next) (length outs) → next' ≡ next_after t (length outs) next → OutputsAfter entry t a outs outs'
-      → Table_means key t a next' outs' → Right key entry t k (buffers numbers next outs) (answer.Table a) (buffers numbers next' outs')
+      → TableMeans key t a next' outs' → Right key entry t k (buffers numbers next outs) (answer.Table a) (buffers numbers next' outs')
   right_table e numbers next next' outs outs' a h b o w =
       subst (λ (x : Call). Right key entry t x (buffers numbers next outs) (answer.Table a) (buffers numbers next' outs')) (sym e) ((h, b, o, w), refl)

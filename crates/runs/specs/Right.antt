@@ -3,7 +3,7 @@
 --   Right                                                      for any call: it changes no buffer but its own
 use Rattle.std.specs.Prelude.{◌≡◌, ℕ, List, length, ℤ, Result}
 use Rattle.machine.specs.declared.Cell.{Cell}
-use Rattle.sheet.specs.Means.{RoundMeans, PairMeans, MapMeans, WordMeans, Table_means}
+use Rattle.sheet.specs.Means.{RoundMeans, PairMeans, MapMeans, WordMeans, TableMeans}
 use Rattle.sheet.specs.Replies.{round_reply, pair_reply, map_reply, map_after, word_reply, word_after}
 use Rattle.sheet.specs.Stage.{Stage}
 use Rattle.sheet.specs.Tables.{table_reply, next_after, OutputsAfter}
@@ -53,7 +53,7 @@ module _ {O F : Type 0} (key : O → List ℤ) (entry : ℕ → ℕ → Result (
       (a ≡ table_reply t (length before.next) (length before.outputs))
       × (after.next ≡ next_after t (length before.outputs) before.next)
       × OutputsAfter entry t a before.outputs after.outputs
-      × Table_means key t a after.next after.outputs
+      × TableMeans key t a after.next after.outputs
 
   abbrev pub Right : Stage → Call → Buffers O → Answer → Buffers O → Type 0
   Right t call.Round before a after = RightRound t a × (after ≡ before)

@@ -22,7 +22,7 @@ use Rattle.sheet.specs.declared.answers.Round.{Round}
 use Rattle.sheet.specs.declared.answers.Round.TheVariants as round
 use Rattle.sheet.specs.declared.answers.Settling.{Settling}
 use Rattle.sheet.specs.declared.answers.Table.{Table}
-use Rattle.sheet.specs.Means.{NoneLonger, RoundMeans, SettleMeans, PairMeans, MapMeans, WordMeans, Table_means}
+use Rattle.sheet.specs.Means.{NoneLonger, RoundMeans, SettleMeans, PairMeans, MapMeans, WordMeans, TableMeans}
 use Rattle.sheet.specs.Replies.{settles_in, splits_in_all, round_reply, settle_reply, pair_at, pair_reply, map_reply, map_after, word_at, word_reply, word_after}
 use Rattle.sheet.specs.Stage.{Stage, stage_at, if_ok}
 use Rattle.sheet.specs.Tables.{cell_count, next_at, OutputsWritten}
@@ -198,15 +198,15 @@ pub table_means_at : {O F : Type 0} (key : O → List ℤ) (m : Meaning O F) →
     → let t : Stage = stage_at key m r done in
     OutputsWritten m.entry t.machine r (cell_count t) outs outs' → (a : Table) → a.classes ≡ block_count t.machine r
     → a.start ≡ block t.machine r m.start
-    → Table_means key t (Ok a) (map (next_at t.machine r) (range_with_len 0 (cell_count t)) ++ rest) outs'
+    → TableMeans key t (Ok a) (map (next_at t.machine r) (range_with_len 0 (cell_count t)) ++ rest) outs'
 table_means_at key m closed r done k so settled rest outs outs' w a ec es =
     let t : Stage = stage_at key m r done in
     let N : Mealy = t.machine in
     let next' : List ℕ = map (next_at N r) (range_with_len 0 (cell_count t)) ++ rest in
     let nexts = next_read N r (cell_count t) rest in
     let start = k.starts so in
-    subst (λ (x : ℕ). Table_means key t (Ok (record { classes = x; start = a.start })) next' outs') (sym ec)
-    (subst (λ (x : ℕ). Table_means key t (Ok (record { classes = block_count N r; start = x })) next' outs') (sym es) (
+    subst (λ (x : ℕ). TableMeans key t (Ok (record { classes = x; start = a.start })) next' outs') (sym ec)
+    (subst (λ (x : ℕ). TableMeans key t (Ok (record { classes = block_count N r; start = x })) next' outs') (sym es) (
       table_smallest key m closed so r (k.settles so settled) next' outs outs' nexts w,
       class_equivalent key m closed so r (k.settles so settled) next' outs outs' nexts w m.start start (block_lt N r m.start start),
     ))

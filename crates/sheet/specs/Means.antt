@@ -2,7 +2,7 @@
 --   RoundMeans, SettleMeans   when rounds settle, and what that says
 --   PairMeans, MapMeans       which states are told apart so far
 --   WordMeans                 the word handed out
---   Table_means               the table handed out
+--   TableMeans               the table handed out
 use Rattle.std.specs.Prelude.{◌≡◌, ℕ, ◌+◌, ◌-◌, ◌<◌, ◌≤◌, true, ◌↔◌, List, length, take, ℤ, Ok, Err, Result, slice_index}
 use Rattle.mealy.specs.FirstWord.{Shortest}
 use Rattle.mealy.specs.Mealy.{Mealy}
@@ -81,8 +81,8 @@ WordMeans t s u (Err (refusal.ShortTable b)) after = Unit {0}
 
 -- the two lists, as a machine, are complete and equivalent to the sheet's, no such machine has fewer states,
 -- and the class of the start is equivalent to the start
-abbrev pub Table_means : {O : Type 0} → (O → List ℤ) → Stage → Result Table Refusal → List ℕ → List O → Type 0
-Table_means key t (Ok a) next outs =
+abbrev pub TableMeans : {O : Type 0} → (O → List ℤ) → Stage → Result Table Refusal → List ℕ → List O → Type 0
+TableMeans key t (Ok a) next outs =
     let table : Mealy = table_mealy key a.classes t.machine.inputs next outs in
     Smallest t.machine table × Equivalent t.machine table t.start a.start
-Table_means key t (Err e) next outs = Unit {0}
+TableMeans key t (Err e) next outs = Unit {0}

@@ -6,7 +6,7 @@ ghost use Rattle.sheet.specs.Stage.{stage_at, stage_of, stage_after, stage_settl
 ghost use Rattle.sheet.specs.Kept.{Kept};
 ghost use Rattle.sheet.specs.Replies.{round_reply, settle_reply, pair_reply, map_reply, map_after, word_reply, word_after};
 ghost use Rattle.sheet.specs.Tables.{table_reply, next_after, OutputsAfter};
-ghost use Rattle.sheet.specs.Means.{RoundMeans, SettleMeans, PairMeans, MapMeans, WordMeans, Table_means};
+ghost use Rattle.sheet.specs.Means.{RoundMeans, SettleMeans, PairMeans, MapMeans, WordMeans, TableMeans};
 
 use crate::steps::{blank, copy_front, fill, first_apart, spell};
 use crate::{Pair, Refusal, Round, Settling, Sheet, Table, TableBuffer};
@@ -171,7 +171,7 @@ impl<M: Machine> Sheet<M> {
         ensures answer { Kept M.Machine M.Out.Output self.now → result ≡ table_reply (stage_of M.Machine M.Out.Output self.now) (length next.old) (length outputs.old) }
         ensures next { Kept M.Machine M.Out.Output self.now → next.new ≡ next_after (stage_of M.Machine M.Out.Output self.now) (length outputs.old) next.old }
         ensures outputs { Kept M.Machine M.Out.Output self.now → OutputsAfter (M.Machine.means self.now.machine).entry (stage_of M.Machine M.Out.Output self.now) result outputs.old outputs.new }
-        ensures means { Kept M.Machine M.Out.Output self.now → Table_means M.Out.Output.key (stage_of M.Machine M.Out.Output self.now) result next.new outputs.new }
+        ensures means { Kept M.Machine M.Out.Output self.now → TableMeans M.Out.Output.key (stage_of M.Machine M.Out.Output self.now) result next.new outputs.new }
     {
         if !self.sound {
             return Err(Refusal::Unsound);

@@ -59,7 +59,11 @@ fn push_tellings(text: &mut String, reduction: &Reduction<Command>) -> Result<()
 }
 
 /// The keys for two modes, and what each of them answers.
-fn push_telling(text: &mut String, reduction: &Reduction<Command>, apart: &Apart) -> Result<(), AllocError>
+fn push_telling(
+    text: &mut String,
+    reduction: &Reduction<Command>,
+    apart: &Apart,
+) -> Result<(), AllocError>
     ensures { OnOk result (string_bytes text.new ≡ string_bytes text.old ++ telling_text (lists_in reduction.now) (apart_of apart.now)) }
 {
     let first = apart.first;

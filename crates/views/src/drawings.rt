@@ -37,7 +37,11 @@ fn push_classes(text: &mut String, reduction: &Reduction<Command>) -> Result<(),
     Ok(())
 }
 
-fn push_class(text: &mut String, reduction: &Reduction<Command>, class: u16) -> Result<(), AllocError>
+fn push_class(
+    text: &mut String,
+    reduction: &Reduction<Command>,
+    class: u16,
+) -> Result<(), AllocError>
     ensures { OnOk result (string_bytes text.new ≡ string_bytes text.old ++ class_text (lists_in reduction.now) class) }
 {
     push_node(text, &reduction.map, class)?;
@@ -52,7 +56,11 @@ fn push_node(text: &mut String, numbering: &[u16], class: u16) -> Result<(), All
     write!(text, "\"]\n")
 }
 
-fn push_edges(text: &mut String, reduction: &Reduction<Command>, class: u16) -> Result<(), AllocError>
+fn push_edges(
+    text: &mut String,
+    reduction: &Reduction<Command>,
+    class: u16,
+) -> Result<(), AllocError>
     ensures { OnOk result (string_bytes text.new ≡ string_bytes text.old ++ edges_from (lists_in reduction.now) class) }
 {
     for input in 0..reduction.inputs {

@@ -5,7 +5,11 @@ ghost use Rattle.views.specs.Members.{member_text, members_text};
 use std::alloc::AllocError;
 
 /// Adds the states of a class, rising.
-pub(crate) fn push_members(text: &mut String, numbering: &[u16], class: u16) -> Result<(), AllocError>
+pub(crate) fn push_members(
+    text: &mut String,
+    numbering: &[u16],
+    class: u16,
+) -> Result<(), AllocError>
     ensures { OnOk result (string_bytes text.new ≡ string_bytes text.old ++ members_text numbering.now class) }
 {
     for s in 0..numbering.len() {

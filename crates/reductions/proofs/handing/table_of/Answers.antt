@@ -2,7 +2,7 @@ use Rattle.std.proofs.Common.{◌≡◌, ℕ, List, ◌++◌, length, take, drop
 use lib.ListN.{length-replicate}
 use Rattle.std.proofs.lemmas.List.{take_at}
 use Rattle.std.proofs.lemmas.Result.{IfOk-from_err}
-use Rattle.sheet.specs.Means.{Table_means}
+use Rattle.sheet.specs.Means.{TableMeans}
 use Rattle.sheet.specs.Stage.{Stage, stage_of}
 use Rattle.sheet.specs.Tables.{cell_count, OutputsAfter}
 use Rattle.sheet.specs.declared.answers.Refusal.{Refusal}
@@ -47,6 +47,6 @@ returns g c =
     let handed = table_handed t so c.requires.settled key entry c.in-Ok.table next next' outs outs' ln lo
     (sym c.in-Ok.is ∙ c.table.ensures.answer k) (c.table.ensures.next k)
     (subst (λ (r : Result Table Refusal). OutputsAfter entry t r outs outs') c.in-Ok.is (c.table.ensures.outputs k))
-    (subst (λ (r : Result Table Refusal). Table_means key t r next' outs') c.in-Ok.is (c.table.ensures.means k)) in
+    (subst (λ (r : Result Table Refusal). TableMeans key t r next' outs') c.in-Ok.is (c.table.ensures.means k)) in
     subst (λ (x : List ℕ). HandedTable key entry t c.in-Ok.table x (take b.len (outs' ++ drop (length outs') b.items))) (sym whole-next)
     (subst (λ (x : List g.row.M-Out.Denot). HandedTable key entry t c.in-Ok.table next' x) (sym whole-outs) handed)

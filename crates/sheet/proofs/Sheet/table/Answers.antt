@@ -15,7 +15,7 @@ use Rattle.sheet.proofs.Answering.{leaves, unsound, heard, room}
 use Rattle.sheet.proofs.Keeping.{kept_held, parts_are, known_of}
 use Rattle.sheet.proofs.Meaning.{table_means_at}
 use Rattle.std.proofs.lemmas.Bool.{cond-false}
-use Rattle.sheet.specs.Means.{Table_means}
+use Rattle.sheet.specs.Means.{TableMeans}
 use Rattle.sheet.specs.Steps.{Front}
 use Rattle.sheet.proofs.Answering.{next_short, outputs_short, tabled}
 use Rattle.sheet.proofs.Copying.{total_is}
@@ -111,6 +111,6 @@ returns g c =
       next = λ k. wrote k ∙ ap (λ (x : Result Table Refusal). if_ok x (map (next_at N a.rounds) (range_with_len 0 (cell_count t)) ++ drop (cell_count t) next) next) (answer k);
       outputs = λ k. (front k).outputs;
       means = λ k.
-          subst (λ (x : List ℕ). Table_means key t (Ok made) x c.fill.new.outputs) (sym (wrote k))
+          subst (λ (x : List ℕ). TableMeans key t (Ok made) x c.fill.new.outputs) (sym (wrote k))
           (table_means_at key m (g.met.M.Machine.closed a.machine) a.rounds a.settled (known_of key m sizes (g.met.M.Machine.closed a.machine) a k) (so k) c.if-not-self-2.false (drop (cell_count t) next) outs c.fill.new.outputs (front k).outputs made (parts_are key m a k (so k)) (class k));
     }
