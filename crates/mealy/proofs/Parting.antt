@@ -1,5 +1,5 @@
 -- The round in which two states part, the words of that length, and the bound on it.
-use Rattle.std.proofs.Common.{◌≡◌, ℕ, zero, suc, ◌-◌, ◌≤◌, true, false, not, List, length, ⊎_elim, arith}
+use Rattle.std.proofs.Common.{◌≡◌, ℕ, zero, suc, ◌-◌, ◌≤◌, false, not, List, length, ⊎_elim, arith}
 use Rattle.std.proofs.lemmas.Bool.{not-true, not-false, not_from_false, false≢true}
 use Rattle.mealy.specs.Mealy.{Mealy}
 use Rattle.mealy.specs.Words.{Tells, ToldWithin}
