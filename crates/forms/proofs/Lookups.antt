@@ -1,5 +1,5 @@
 -- The entry of a grid, once its place has been looked up.
-use Rattle.std.proofs.Common.{◌≡◌, ℕ, ◌+◌, ◌*◌, List, get_or, Some, Ok, sym, refl, ap, ◌∙◌}
+use Rattle.std.proofs.Common.{◌≡◌, ℕ, ◌+◌, ◌*◌, List, get_or, Some, Ok, sym, refl, ◌∙◌}
 use Rattle.std.specs.List.{slice_get}
 use Rattle.forms.specs.Entries.{bounds_test}
 use Rattle.forms.specs.Grids.{grid_cell, grid_entry}

@@ -1,5 +1,5 @@
 -- A machine under a key map.
-use Rattle.std.specs.Prelude.{ℕ, ◌-◌, Bool, cond, not, ◌&&◌, List, ◌++◌, length, take, replicate, Result, ◌==◌, nat_le, slice_index}
+use Rattle.std.specs.Prelude.{ℕ, ◌-◌, Bool, not, ◌&&◌, List, ◌++◌, length, take, replicate, Result, ◌==◌, nat_le, slice_index}
 use Rattle.machine.specs.Meaning.{Meaning}
 use Rattle.machine.specs.declared.Cell.{Cell}
 use Rattle.machine.specs.declared.Machine as machines

@@ -5,7 +5,7 @@
 --   Described, Reported                   the report of a machine, and of an opening
 use Rattle.std.specs.Prelude.{◌≡◌, ℕ, Bool, false, List, ◌++◌, is_ok, Ok, Err, codes, decimal, Result}
 use Rattle.machine.specs.Causes.{cause_number}
-use Rattle.machine.specs.Checks.{Checked, check_number}
+use Rattle.machine.specs.Checks.{Checked}
 use Rattle.machine.specs.Meaning.{Meaning}
 use Rattle.machine.specs.declared.checks.CheckRefusal.{CheckRefusal}
 use Rattle.machine.specs.declared.checks.CheckRefusal.TheVariants as refusal

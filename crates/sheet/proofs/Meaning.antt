@@ -7,7 +7,7 @@ use Rattle.std.proofs.lemmas.Bool.{both_ways, cond_both, and_parts, ltb-true, le
 use Rattle.machine.specs.Meaning as meaning
 use Rattle.machine.specs.Meaning.{Meaning}
 use Rattle.machine.specs.Theory.{sound_by}
-use Rattle.mealy.specs.Mealy.{Mealy, Closed}
+use Rattle.mealy.specs.Mealy.{Mealy}
 use Rattle.mealy.specs.FirstWord.{word_of, Shortest}
 use Rattle.mealy.specs.Partitions.{share, block, blocks, block_count, parted, Settled}
 use Rattle.mealy.proofs.Below.{lowest_is}

@@ -1,5 +1,5 @@
 -- The cells of a grid over the front of two lists.
-use Rattle.std.proofs.Common.{◌≡◌, ℕ, zero, suc, ◌+◌, ◌*◌, ◌<◌, ◌≤◌, true, false, cond, eqb, leb, List, [], ◌∷◌, length, get_or, take, ℤ, is_ok, IfOk as made, Some, Ok, Err, Result, sym, refl, ap, ◌∙◌, arith, length-take}
+use Rattle.std.proofs.Common.{◌≡◌, ℕ, zero, suc, ◌+◌, ◌*◌, ◌<◌, ◌≤◌, List, [], ◌∷◌, length, get_or, take, ℤ, is_ok, IfOk as made, Some, Ok, Err, Result, sym, refl, ap, ◌∙◌, arith, length-take}
 use Rattle.std.proofs.lemmas.Nat.{mul-add-lt}
 use Rattle.std.proofs.lemmas.List.{get_or-take}
 use Rattle.std.proofs.lemmas.Bool.Decides.{nat_tests}
@@ -12,8 +12,8 @@ use Rattle.forms.specs.declared.Grid.{Grid}
 use Rattle.forms.specs.declared.openings.OpenRefusal.{OpenRefusal}
 use Rattle.forms.specs.Grids.{grid_cell, grid_entry, grid_meaning, grid_opening}
 use Rattle.forms.specs.Bounds.{after_test, in_bounds}
-use Rattle.machine.specs.Meaning.{Meaning, Sound}
-use Rattle.machine.specs.Theory.{mealy_of, next_of, key_of}
+use Rattle.machine.specs.Meaning.{Meaning}
+use Rattle.machine.specs.Theory.{next_of, key_of}
 use Rattle.machine.specs.declared.faults.StoredFault.{StoredFault}
 use Rattle.mealy.specs.Mealy.{Closed}
 use Rattle.sheet.specs.Tables.{key_at, table_mealy}

@@ -1,5 +1,5 @@
 -- A text, or any list, made piece by piece.
-use Rattle.std.proofs.Common.{◌≡◌, ℕ, suc, ◌+◌, ◌-◌, ◌<◌, ◌≤◌, List, [], ◌∷◌, ◌++◌, length, get_or, drop, codes, decimal, sym, refl, ap, ◌∙◌, append_assoc, append-nil, add-one, arith, drop-cons}
+use Rattle.std.proofs.Common.{◌≡◌, ℕ, suc, ◌+◌, ◌-◌, ◌<◌, ◌≤◌, List, [], ◌∷◌, ◌++◌, length, get_or, drop, codes, decimal, refl, append_assoc, append-nil, add-one, arith, drop-cons}
 use lib.Seq.{drop-length}
 use Rattle.std.specs.List.{range_with_len}
 use Rattle.texts.specs.Each.{each}

@@ -3,7 +3,7 @@ use Rattle.std.proofs.Common.{◌≡◌, ℕ, ◌+◌, ◌*◌, ◌≤◌, List,
 use Rattle.std.proofs.lemmas.List.{take_at, take_all}
 use Rattle.machine.specs.Meaning.{Meaning}
 use Rattle.machine.specs.declared.outputs.Command.{Command}
-use Rattle.writing.specs.Bytes.{bytes_of, puts}
+use Rattle.writing.specs.Bytes.{puts}
 use Rattle.writing.specs.Written.{records_before, heads, rows, chain_numbers, written, bytes_needed}
 use Rattle.writing.proofs.Counts.{length_heads, length_written}
 use Rattle.writing.proofs.Puts.{puts_append, puts_front}

@@ -1,11 +1,11 @@
 -- Runs, input by input.
-use Rattle.std.proofs.Common.{◌≡◌, ℕ, zero, suc, ◌+◌, ◌-◌, ◌*◌, ◌<◌, ◌≤◌, Bool, true, false, cond, not, ◌||◌, eqb, ltb, ◌⊎◌, List, [], ◌∷◌, length, sym, refl, ap, ◌∙◌, inl, inr, arith}
-use Rattle.std.proofs.lemmas.Bool.{cases_Bool, cond-true, cond-false, eq-eqb, lt-ltb}
+use Rattle.std.proofs.Common.{◌≡◌, ℕ, zero, suc, ◌+◌, ◌*◌, ◌≤◌, true, false, cond, ltb, List, [], ◌∷◌, length, sym, refl, ap, ◌∙◌, inl, inr, arith}
+use Rattle.std.proofs.lemmas.Bool.{cases_Bool, cond-true, cond-false, lt-ltb}
 use Rattle.std.proofs.lemmas.Bool.Decides.{nat_tests}
 use Rattle.machine.specs.declared.Cell.{Cell}
 use Rattle.machine.specs.declared.outputs.Command.{Command}
 use Rattle.writing.specs.Bytes.{puts}
-use Rattle.writing.specs.Runs.{equal_cells, ends_run, run, runs, row_runs}
+use Rattle.writing.specs.Runs.{ends_run, run, runs, row_runs}
 use Rattle.writing.specs.Written.{link_to, records, place_of}
 use Rattle.writing.specs.declared.rows.Run.{Run}
 use Rattle.writing.proofs.Puts.{puts_append}

@@ -1,10 +1,10 @@
 -- The runs of a row are its longest runs.
-use Rattle.std.proofs.Common.{◌≡◌, ℕ, zero, suc, ◌+◌, ◌<◌, ◌≤◌, Bool, true, false, not, ◌&&◌, ◌||◌, eqb, ◌⊎◌, List, [], ◌∷◌, sym, refl, ap, ◌∙◌, subst, inl, inr, arith}
+use Rattle.std.proofs.Common.{◌≡◌, ℕ, zero, suc, ◌+◌, ◌<◌, ◌≤◌, true, false, eqb, List, [], ◌∷◌, sym, refl, ap, ◌∙◌, subst, inl, inr, arith}
 use Rattle.std.proofs.lemmas.Bool.{cases_Bool, cases_lt, and_from, and_parts, both_ways, eq-eqb, eqb-true}
 use Rattle.std.proofs.lemmas.Bool.Decides.{nat_tests}
 use Rattle.machine.specs.declared.Cell.{Cell}
 use Rattle.machine.specs.declared.outputs.Command.{Command}
-use Rattle.writing.specs.Runs.{equal_cells, ends_run, run, runs, row_runs}
+use Rattle.writing.specs.Runs.{equal_cells, ends_run, runs, row_runs}
 use Rattle.writing.specs.declared.rows.Run.{Run}
 use Rattle.writing.proofs.RunSteps.{runs_on, runs_end}
 

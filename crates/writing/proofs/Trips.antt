@@ -1,7 +1,7 @@
 -- The round trip: a written chain, read again.
-use Rattle.std.proofs.Common.{◌≡◌, ℕ, zero, suc, ◌+◌, ◌-◌, ◌*◌, ◌<◌, ◌≤◌, Bool, true, false, cond, not, ◌&&◌, ◌||◌, eqb, ltb, leb, ◌⊎◌, List, [], ◌∷◌, ◌++◌, length, get_or, take, drop, is_ok, Ok, Err, Result, sym, refl, ap, ◌∙◌, subst, inl, inr, arith}
-use Rattle.std.proofs.lemmas.List.{drop-drop, drop_at, get_or-drop, take_at, get_or_append_left}
-use Rattle.std.proofs.lemmas.Bool.{cases_Bool, cases_lt, cond-true, cond-false, and_from, and_right, le-leb, lt-leb, lt-ltb}
+use Rattle.std.proofs.Common.{◌≡◌, ℕ, zero, suc, ◌+◌, ◌-◌, ◌*◌, ◌<◌, ◌≤◌, true, false, not, ◌&&◌, ◌||◌, eqb, ltb, leb, List, [], ◌∷◌, ◌++◌, length, get_or, drop, is_ok, Ok, Err, Result, sym, refl, ap, ◌∙◌, subst, inl, inr, arith}
+use Rattle.std.proofs.lemmas.List.{drop-drop, drop_at, get_or-drop, get_or_append_left}
+use Rattle.std.proofs.lemmas.Bool.{cases_lt, cond-true, cond-false, and_from, and_right, le-leb, lt-leb, lt-ltb}
 use Rattle.std.proofs.lemmas.Bool.Decides.{nat_tests}
 use Rattle.std.specs.Result.{result_and}
 use Rattle.machine.specs.Meaning.{Meaning, Sound, Inside, Closed}
@@ -10,13 +10,13 @@ use Rattle.machine.specs.declared.faults.StoredFault.{StoredFault}
 use Rattle.machine.specs.declared.outputs.Command.{Command}
 use Rattle.forms.specs.Bounds.{after_test, in_bounds}
 use Rattle.forms.specs.Bytes.{number, states, inputs, start, count}
-use Rattle.forms.specs.Chains.{Trail, Read, Ended, Broken, trail, walk, record_at, given, chain_entry, chain_meaning, chain_opening}
+use Rattle.forms.specs.Chains.{Trail, Read, Ended, trail, walk, record_at, given, chain_entry, chain_meaning, chain_opening}
 use Rattle.forms.specs.Entries.{bounds_test}
 use Rattle.forms.specs.Openings.{size_test}
 use Rattle.writing.specs.Bytes.{bytes_of}
 use Rattle.writing.specs.Longest.{SameCell, Apart, LongestFrom, LongestRuns}
 use Rattle.writing.specs.Runs.{filled, row_of, runs}
-use Rattle.writing.specs.Writes.{SameMachine, Reopens}
+use Rattle.writing.specs.Writes.{Reopens}
 use Rattle.writing.specs.Written.{link_to, records, place_of, state_runs, records_before, heads, rows, chain_numbers, written}
 use Rattle.writing.specs.declared.rows.Run.{Run}
 use Rattle.writing.proofs.Counts.{length_heads, length_rows, before_le, before_part, head_at, rows_part, length_written}

@@ -13,7 +13,7 @@ use Rattle.forms.specs.Chains.{chain_opening}
 use Rattle.writing.specs.declared.plans.Plan.{Plan}
 use Rattle.writing.specs.declared.writes.WriteRefusal.{WriteRefusal}
 use Rattle.writing.specs.declared.writes.WriteRefusal.TheVariants as refusal
-use Rattle.writing.specs.Written.{all_records, all_heads, written, bytes_needed}
+use Rattle.writing.specs.Written.{all_records, all_heads, bytes_needed}
 
 -- the number of a refusal: a check's own, or 8
 abbrev pub write_number : {F : Type 0} → WriteRefusal F → ℕ

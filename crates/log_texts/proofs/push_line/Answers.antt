@@ -1,4 +1,4 @@
-use Rattle.std.proofs.Common.{◌++◌, string_bytes, codes}
+use Rattle.std.proofs.Common.{string_bytes, codes}
 use Rattle.runs.specs.Lines.{entry_at}
 use Rattle.log_texts.specs.Lines.{call_text, answer_text, buffers_text}
 use Rattle.texts.proofs.Joining.{joined}

@@ -8,7 +8,7 @@ use Rattle.sheet.specs.declared.answers.Refusal.TheVariants as refusal
 use Rattle.sheet.specs.Kept.{Kept}
 use Rattle.sheet.specs.Replies.{map_reply, map_after}
 use Rattle.sheet.specs.Stage.{Stage, stage_at, if_ok}
-use Rattle.sheet.proofs.Answering.{leaves, unsound, heard, states, short, room}
+use Rattle.sheet.proofs.Answering.{leaves, unsound, heard, short, room}
 use Rattle.sheet.proofs.Keeping.{kept_row, known_of}
 use Rattle.sheet.proofs.Meaning.{map_means}
 use Rattle.sheet.proofs.Rows.{front_is}

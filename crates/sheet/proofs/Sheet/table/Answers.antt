@@ -11,7 +11,7 @@ use Rattle.sheet.specs.declared.answers.TableBuffer.TheVariants as buffer
 use Rattle.sheet.specs.Kept.{Kept}
 use Rattle.sheet.specs.Stage.{Stage, stage_at, if_ok}
 use Rattle.sheet.specs.Tables.{cell_count, next_at, table_reply}
-use Rattle.sheet.proofs.Answering.{leaves, unsound, heard, room}
+use Rattle.sheet.proofs.Answering.{leaves, unsound, heard}
 use Rattle.sheet.proofs.Keeping.{kept_held, parts_are, known_of}
 use Rattle.sheet.proofs.Meaning.{table_means_at}
 use Rattle.std.proofs.lemmas.Bool.{cond-false}

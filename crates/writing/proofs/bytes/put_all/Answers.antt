@@ -1,6 +1,6 @@
 use Rattle.std.proofs.Common.{ap, ◌∙◌, arith}
 use Rattle.std.proofs.lemmas.List.{take_all}
-use Rattle.writing.specs.Bytes.{put_at, puts}
+use Rattle.writing.specs.Bytes.{puts}
 use Rattle.writing.proofs.Puts.{puts_more}
 use Rattle.writing.proofs.bytes.put_all.Goals as goal
 

@@ -1,4 +1,4 @@
-use Rattle.std.proofs.Common.{◌≡◌, IfOk, Ok, Err, vec_items, Result, sym, subst}
+use Rattle.std.proofs.Common.{IfOk, Ok, Err, vec_items, Result, sym, subst}
 use Rattle.forms.specs.Forms.{chain_of}
 use Rattle.writing.specs.Normal.{Normalised}
 use Rattle.writing.proofs.normal.normalised.Goals as goal

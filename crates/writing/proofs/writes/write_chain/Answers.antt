@@ -1,7 +1,6 @@
-use Rattle.std.proofs.Common.{◌≡◌, ◌++◌, take, drop, sym, ap, ◌∙◌, subst}
+use Rattle.std.proofs.Common.{sym, subst}
 use Rattle.writing.specs.Longest.{LongestRuns}
 use Rattle.writing.specs.Writes.{Reopens}
-use Rattle.writing.specs.Written.{written}
 use Rattle.writing.proofs.Finish.{needed_is, front_is}
 use Rattle.writing.proofs.writes.write_chain.Goals as goal
 

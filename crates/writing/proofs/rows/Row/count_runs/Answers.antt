@@ -1,4 +1,4 @@
-use Rattle.std.proofs.Common.{◌≡◌, suc, ◌+◌, ◌-◌, ◌<◌, sym, ◌∙◌, arith, rules}
+use Rattle.std.proofs.Common.{◌≡◌, suc, ◌+◌, ◌-◌, ◌<◌, sym, arith, rules}
 use Rattle.writing.specs.Runs.{cells_in}
 use Rattle.writing.proofs.RunSteps.{runs_le, count_on, count_end}
 use Rattle.writing.proofs.rows.Row.count_runs.Goals as goal

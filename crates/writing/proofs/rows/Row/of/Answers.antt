@@ -1,5 +1,4 @@
 use Rattle.std.proofs.Common.{arith}
-use Rattle.writing.specs.Runs.{row_of}
 use Rattle.writing.proofs.Kept.{kept_none, kept_more, kept_all}
 use Rattle.writing.proofs.rows.Row.of.Goals as goal
 
