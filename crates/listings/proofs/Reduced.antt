@@ -1,5 +1,5 @@
 -- The lists of a reduction are those that its machine gives.
-use Rattle.std.proofs.Common.{◌≡◌, ℕ, List, [], ◌∷◌, map, Some, vec_items, Option, sym, refl, ap, ◌∙◌}
+use Rattle.std.proofs.Common.{◌≡◌, ℕ, List, [], ◌∷◌, map, Some, vec_items, sym, refl, ap, ◌∙◌}
 use mathlib.Core.List.{map-map}
 use Rattle.std.specs.List.{range_with_len}
 use Rattle.machine.specs.Meaning.{Meaning}

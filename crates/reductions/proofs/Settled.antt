@@ -1,5 +1,5 @@
 -- A settled sheet of a sound machine: where it stands, the lowest states of its classes, and that it has a word for each two.
-use Rattle.std.proofs.Common.{◌≡◌, ℕ, suc, ◌+◌, ◌-◌, ◌*◌, ◌<◌, ◌≤◌, true, false, not, ◌&&◌, eqb, ltb, leb, List, map, length, get_or, ℤ, is_ok, Ok, Err, Result, sym, refl, ap, ◌∙◌, subst, arith}
+use Rattle.std.proofs.Common.{◌≡◌, ℕ, suc, ◌+◌, ◌-◌, ◌*◌, ◌<◌, ◌≤◌, true, false, not, ◌&&◌, eqb, ltb, leb, List, map, length, get_or, ℤ, is_ok, Ok, sym, ap, ◌∙◌, arith}
 use Rattle.std.proofs.lemmas.List.FromFn.{fill_by_all, get_or-map-range_with_len, length-map-range_with_len}
 use Rattle.std.proofs.lemmas.Bool.{cond-true, cond-false, and_from, lt-ltb, le-ltb, le-leb}
 use Rattle.std.specs.List.{range_with_len}
@@ -19,12 +19,11 @@ use Rattle.mealy.proofs.Parting.{first_word_is_shortest}
 use Rattle.mealy.proofs.Reduced.{leader_of_is}
 use Rattle.mealy.proofs.Rounds.{blocks_bounded}
 use Rattle.rounds.proofs.Passes.{lowest_same}
-use Rattle.sheet.specs.Replies.{and_then, splits_in_all, settle_reply, partingReply, word_reply, word_at}
+use Rattle.sheet.specs.Replies.{splits_in_all, settle_reply, word_reply}
 use Rattle.sheet.specs.Kept.{Kept}
 use Rattle.sheet.specs.Stage.{Stage, stage_at, stage_of, stage_settled}
 use Rattle.sheet.specs.Tables.{cell_count}
 use Rattle.sheet.specs.declared.Sheet.{Sheet}
-use Rattle.sheet.specs.declared.answers.Refusal.{Refusal}
 use Rattle.sheet.specs.declared.answers.Settling.{Settling}
 use Rattle.reductions.specs.Aparts.{Told}
 use Rattle.reductions.specs.Reductions.{leaders_of, settled_stage, settling_of}
@@ -92,10 +91,8 @@ module _ (t : Stage) where
       → word_reply t s u 128 ≡ Ok (parted m r s u)
   word_heard so few s u ls lu early =
       let j : ℕ = parted m r s u in
-      let parts : partingReply t s u ≡ Ok j =
       cond-true t.sound _ _ so
-      ∙ cond-true (ltb s m.states && ltb u m.states) _ _ (and_from _ _ (lt-ltb s _ ls) (lt-ltb u _ lu)) in
-      ap (λ (x : Result ℕ Refusal). and_then x (word_at r 128)) parts
+      ∙ cond-true (ltb s m.states && ltb u m.states) _ _ (and_from _ _ (lt-ltb s _ ls) (lt-ltb u _ lu))
       ∙ cond-true (leb j r) _ _ (le-leb j r early)
       ∙ cond-false (ltb 128 j) _ _ (le-ltb 128 j (omega arith))
 

@@ -1,5 +1,5 @@
 -- What a sheet of a sound machine writes into lists of the size that is needed.
-use Rattle.std.proofs.Common.{◌≡◌, ℕ, zero, suc, ◌+◌, ◌-◌, ◌<◌, ◌≤◌, true, ◌&&◌, ltb, leb, List, [], ◌∷◌, ◌++◌, map, length, get_or, take, drop, ℤ, Some, None, Ok, Err, Option, Result, sym, refl, ap, ◌∙◌, subst, append-nil, arith}
+use Rattle.std.proofs.Common.{◌≡◌, ℕ, zero, suc, true, ◌&&◌, ltb, leb, List, [], ◌∷◌, ◌++◌, map, length, get_or, take, drop, ℤ, Some, None, Ok, Err, Result, sym, refl, ap, ◌∙◌, append-nil, arith}
 use lib.Seq.{drop-length}
 use Rattle.std.proofs.lemmas.List.FromFn.{fill_by_all}
 use Rattle.std.proofs.lemmas.List.{take_at, length-map}
@@ -8,12 +8,11 @@ use Rattle.std.specs.List.{slice_get, range_with_len}
 use Rattle.machine.specs.declared.Cell.{Cell}
 use Rattle.mealy.specs.FirstWord.{word_of}
 use Rattle.mealy.specs.Partitions.{blocks, parted}
-use Rattle.mealy.specs.Reduced.{Smallest}
 use Rattle.mealy.proofs.Parting.{first_word_is_shortest}
 use Rattle.sheet.specs.Means.{TableMeans}
-use Rattle.sheet.specs.Replies.{and_then, map_reply, map_after, word_at, word_reply, word_after}
+use Rattle.sheet.specs.Replies.{map_reply, map_after, word_reply, word_after}
 use Rattle.sheet.specs.Stage.{Stage, if_ok}
-use Rattle.sheet.specs.Tables.{cell_count, next_at, roomReply, table_reply, table_of, next_after, OutputsAfter, OutputsWritten, table_mealy}
+use Rattle.sheet.specs.Tables.{cell_count, next_at, table_reply, table_of, next_after, OutputsAfter, OutputsWritten}
 use Rattle.sheet.specs.declared.answers.Refusal.{Refusal}
 use Rattle.sheet.specs.declared.answers.Table.{Table}
 use Rattle.reductions.specs.Reductions.{HandedTable, output_at}
@@ -40,10 +39,9 @@ word_written t s u n before after e f =
     let j : ℕ = parted m t.rounds s u in
     let word : List ℕ = word_of m t.rounds s u in
     let P : Result ℕ Refusal → Type 0 = λ x. Ok n ≡ x → take n (if_ok x (word ++ drop (length word) before) before) ≡ word in
-    let Q : Result ℕ Refusal → Type 0 = λ x. P (and_then x (word_at t.rounds (length before))) in
     let all : P (word_reply t s u (length before)) =
-    cond_both t.sound _ _ Q
-    (λ _. cond_both (ltb s m.states && ltb u m.states) _ _ Q
+    cond_both t.sound _ _ P
+    (λ _. cond_both (ltb s m.states && ltb u m.states) _ _ P
     (λ _. cond_both (leb j t.rounds) _ _ P
     (λ early. cond_both (ltb (length before) j) _ _ P
     (λ _ h. absurd (ok≢err _ _ h))
@@ -66,12 +64,10 @@ nth_read (x ∷ xs) (suc k) = nth_read xs k
 module _ (t : Stage) (so : t.sound ≡ true) (done : t.settled ≡ true) where
   pub table_heard : (nexts outs : ℕ) → nexts ≡ cell_count t → outs ≡ cell_count t → table_reply t nexts outs ≡ Ok (table_of t)
   table_heard nexts outs e f =
-      let room : roomReply t nexts outs ≡ Ok (cell_count t) =
       cond-true t.sound _ _ so
       ∙ cond-true t.settled _ _ done
       ∙ cond-false (ltb nexts (cell_count t)) _ _ (le-ltb nexts (cell_count t) (omega arith))
-      ∙ cond-false (ltb outs (cell_count t)) _ _ (le-ltb outs (cell_count t) (omega arith)) in
-      ap (λ (x : Result ℕ Refusal). and_then x (λ cells. Ok (table_of t))) room
+      ∙ cond-false (ltb outs (cell_count t)) _ _ (le-ltb outs (cell_count t) (omega arith))
 
   next_written : (before : List ℕ) (outs : ℕ) → length before ≡ cell_count t → outs ≡ cell_count t
       → next_after t outs before ≡ map (next_at t.machine t.rounds) (range_with_len 0 (cell_count t))

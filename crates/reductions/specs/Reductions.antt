@@ -11,7 +11,6 @@ use Rattle.machine.specs.Meaning.{Meaning, Sound}
 use Rattle.machine.specs.Theory.{mealy_of}
 use Rattle.machine.specs.declared.Cell.{Cell}
 use Rattle.mealy.specs.FirstWord.{Shortest, word_of}
-use Rattle.mealy.specs.Mealy.{Mealy}
 use Rattle.mealy.specs.Partitions.{blocks, block_count}
 use Rattle.mealy.specs.Reduced.{leader_of, Smallest}
 use Rattle.mealy.specs.Words.{Equivalent}

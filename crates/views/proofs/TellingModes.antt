@@ -1,5 +1,5 @@
 -- What a mode shows is what the machine of the blocks answers, so the word of two modes tells them apart there too.
-use Rattle.std.proofs.Common.{◌≡◌, ℕ, ◌+◌, ◌*◌, ◌%◌, ◌<◌, true, List, [], ◌∷◌, map, get_or, ℤ, pos, is_ok, Ok, Err, Result, sym, refl, ap, ◌∙◌, subst, inl, arith}
+use Rattle.std.proofs.Common.{◌≡◌, ℕ, ◌+◌, ◌*◌, ◌%◌, ◌<◌, true, List, [], ◌∷◌, map, get_or, ℤ, pos, is_ok, Ok, Err, Result, sym, refl, ap, ◌∙◌, inl, arith}
 use lib.Arith.{digits_div, digits_mod}
 use Rattle.std.proofs.lemmas.Nat.{mul-add-lt}
 use Rattle.std.proofs.lemmas.List.FromFn.{get_or-map-range_with_len}
@@ -14,7 +14,7 @@ use Rattle.machine.proofs.Theory.{sound_closed, sound_decides}
 use Rattle.mealy.specs.Mealy.{Mealy, Closed}
 use Rattle.mealy.specs.Partitions.{block, block_count, Settled}
 use Rattle.mealy.specs.Reduced.{leader_of, reduced}
-use Rattle.mealy.specs.Words.{Word, Tells, answer}
+use Rattle.mealy.specs.Words.{Word, answer}
 use Rattle.mealy.proofs.Reduced.{leader_of_is, reduced_closed, block_equivalent}
 use Rattle.mealy.proofs.Telling.{equivalent_answers, tells_differ}
 use Rattle.listings.specs.Lists.{Lists, command_key, number_at, lists_of}

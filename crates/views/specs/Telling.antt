@@ -1,5 +1,5 @@
 -- What the card is for: on their keys, two modes show different outputs.
-use Rattle.std.specs.Prelude.{ℕ, ◌<◌, ◌≢◌, List, get_or}
+use Rattle.std.specs.Prelude.{ℕ, ◌<◌, ◌≢◌}
 use Rattle.machine.specs.Meaning.{Meaning, Sound, Closed}
 use Rattle.machine.specs.declared.faults.StoredFault.{StoredFault}
 use Rattle.machine.specs.declared.outputs.Command.{Command}

@@ -11,7 +11,6 @@ use listings::lines::{command_at, number_at};
 use machine::Command;
 use reductions::{Apart, Reduction};
 use std::alloc::AllocError;
-use std::fmt;
 use texts::push_numbers;
 
 /// The modes that are left, and for each two of them the keys that tell which of them the panel was in, and which it is in then.
@@ -95,7 +94,7 @@ fn push_answers(
     reduction: &Reduction<Command>,
     mode: u16,
     word: &[u16],
-) -> Result<u16, fmt::Error>
+) -> Result<u16, AllocError>
     ensures { IfOk result (λ last. Ran (lists_in reduction.now) mode word.now (string_bytes text.old) (string_bytes text.new) last) }
 {
     let mut at = mode;

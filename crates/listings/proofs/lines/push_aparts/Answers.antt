@@ -1,6 +1,6 @@
-use Rattle.std.proofs.Common.{◌≡◌, ℕ, ◌+◌, List, ◌++◌, map, length, drop, string_bytes, sym, ap, ◌∙◌, arith}
+use Rattle.std.proofs.Common.{ℕ, ◌+◌, List, ◌++◌, map, drop, string_bytes, sym, ap, ◌∙◌, arith}
 use Rattle.std.proofs.lemmas.List.{get_or-map, length-map}
-use Rattle.reductions.specs.Aparts.{Parting, apart_of}
+use Rattle.reductions.specs.Aparts.{apart_of}
 use Rattle.texts.proofs.Pieces.{each_step, each_done}
 use Rattle.listings.specs.Lines.{apart_text, aparts_text}
 use Rattle.listings.proofs.lines.push_aparts.Goals as goal

@@ -1,8 +1,8 @@
-use Rattle.std.proofs.Common.{◌≡◌, ℕ, ◌+◌, ◌-◌, List, ◌++◌, map, get_or, string_bytes, codes, decimal, sym, ap, ◌∙◌, arith}
+use Rattle.std.proofs.Common.{◌≡◌, ℕ, ◌+◌, ◌-◌, List, ◌++◌, map, get_or, string_bytes, codes, decimal, ap, ◌∙◌, arith}
 use Rattle.std.specs.List.{range_with_len}
 use Rattle.machine.specs.declared.outputs.Command.{Command}
 use Rattle.texts.specs.Each.{each}
-use Rattle.texts.proofs.Pieces.{each_next, each_end}
+use Rattle.texts.proofs.Pieces.{each_next}
 use Rattle.listings.specs.Lines.{cell_text}
 use Rattle.listings.specs.Lists.{Lists, lists_in}
 use Rattle.listings.proofs.lines.push_cells.Goals as goal

@@ -1,4 +1,4 @@
-use Rattle.std.proofs.Common.{◌++◌, string_bytes, codes}
+use Rattle.std.proofs.Common.{string_bytes, codes}
 use Rattle.texts.specs.Numbers.{numbers_text}
 use Rattle.texts.proofs.Joining.{joined}
 use Rattle.listings.proofs.lines.push_map.Goals as goal

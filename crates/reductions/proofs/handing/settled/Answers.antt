@@ -1,6 +1,6 @@
-use Rattle.std.proofs.Common.{◌≡◌, false, Ok, Result, sym, ap, ◌∙◌, subst}
+use Rattle.std.proofs.Common.{Ok, Result, sym, ap, ◌∙◌}
 use Rattle.sheet.specs.Replies.{settle_reply}
-use Rattle.sheet.specs.Stage.{Stage, stage_at, stage_of, stage_settled}
+use Rattle.sheet.specs.Stage.{stage_of, stage_settled}
 use Rattle.sheet.specs.declared.answers.Refusal.{Refusal}
 use Rattle.sheet.specs.declared.answers.Settling.{Settling}
 use Rattle.reductions.proofs.Settled.{settles, stage_settled_lem}

@@ -2,7 +2,7 @@ use Rattle.std.proofs.Common.{◌≡◌, ℕ, ◌+◌, ◌*◌, List, ◌++◌, 
 use Rattle.machine.specs.declared.outputs.Command.{Command}
 use Rattle.listings.specs.Lists.{Lists, lists_in}
 use Rattle.texts.specs.Numbers.{numbers_text}
-use Rattle.views.specs.Cards.{shows, ends}
+use Rattle.views.specs.Cards.{shows}
 use Rattle.views.proofs.Running.{shows_step, ends_step, shows_done, ends_done}
 use Rattle.views.proofs.cards.push_answers.Goals as goal
 

@@ -1,9 +1,9 @@
-use Rattle.std.proofs.Common.{◌≡◌, ℕ, ◌+◌, List, ◌++◌, map, vec_items, string_bytes, codes, decimal, sym, refl, ap, ◌∙◌, append_assoc}
+use Rattle.std.proofs.Common.{◌≡◌, ℕ, List, ◌++◌, string_bytes, codes, decimal, ap, ◌∙◌, append_assoc}
 use Rattle.std.proofs.lemmas.Result.{IfOk-weaker}
 use Rattle.listings.specs.Lists.{Lists, lists_in}
 use Rattle.texts.specs.Numbers.{numbers_text}
 use Rattle.texts.proofs.Joining.{joined}
-use Rattle.views.specs.Cards.{shows, ends, run_text}
+use Rattle.views.specs.Cards.{shows, run_text}
 use Rattle.views.proofs.cards.push_run.Goals as goal
 
 pub returns : goal.returns

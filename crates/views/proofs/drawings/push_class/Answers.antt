@@ -1,5 +1,4 @@
-use Rattle.std.proofs.Common.{◌≡◌, ℕ, List, ◌++◌, map, vec_items, string_bytes, codes, decimal, refl, ap, ◌∙◌, append_assoc}
-use Rattle.std.proofs.lemmas.Result.{IfOk-weaker}
+use Rattle.std.proofs.Common.{ℕ, List, ◌++◌, vec_items, string_bytes, ap, ◌∙◌}
 use Rattle.texts.proofs.Joining.{joined}
 use Rattle.listings.specs.Lists.{lists_in}
 use Rattle.views.specs.Drawings.{node_text, edges_from}

@@ -1,5 +1,4 @@
-use Rattle.std.proofs.Common.{◌≡◌, ℕ, List, ◌++◌, map, vec_items, string_bytes, codes, decimal, refl, ap, ◌∙◌, append_assoc}
-use Rattle.std.proofs.lemmas.Result.{IfOk-weaker}
+use Rattle.std.proofs.Common.{string_bytes}
 use Rattle.texts.proofs.Joining.{joined}
 use Rattle.listings.specs.Lists.{lists_in}
 use Rattle.views.specs.Cards.{modes_text, tellings_text}
