@@ -39,9 +39,7 @@ fn show_chain<V: View>(heap: Global, chain: Chain, view: &V) -> Result<Report, A
     match reduce(heap, chain) {
         Ok(reduction) => {
             let mut text = String::new(heap);
-            let Ok(()) = view.push(&mut text, &reduction) else {
-                return Err(AllocError);
-            };
+            view.push(&mut text, &reduction)?;
             Ok(Report {
                 text,
                 accepted: true,

@@ -8,15 +8,15 @@ use Rattle.listings.specs.Lists.{Lists, command_key, lists_in}
 use Rattle.listings.proofs.Reduced.{lists_are}
 use Rattle.listings.proofs.show_chain.Goals as goal
 
-pub returns-in-Ok-push : goal.returns-in-Ok-push
-returns-in-Ok-push g c =
+pub returns-in_ok-push-in-Ok : goal.returns-in_ok-push-in-Ok
+returns-in_ok-push-in-Ok g c =
     let m = chain_of c.args.chain in
     let x = c.in-Ok.reduction in
     let is = c.in-Ok.ensures in
     let shown : Lists → List ℕ = g.V.View.shown c.args.view.now in (
       Ok tt,
       is.sound,
-      c.in-Ok-push.ensures ∙ ap (λ (t : List ℕ). t ++ shown (lists_in x)) c.new-text.ensures.bytes ∙ ap shown (lists_are m x is),
+      c.in_ok-push-in-Ok.ensures ∙ ap (λ (t : List ℕ). t ++ shown (lists_in x)) c.new-text.ensures.bytes ∙ ap shown (lists_are m x is),
       refl,
     )
 
