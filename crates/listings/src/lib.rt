@@ -1,4 +1,4 @@
-//! A chain's machine reduced and shown, in one of several views; `reduce` prints the plain listing.
+//! A chain's machine reduced and shown, in one of several views, of which the plain listing is the first.
 #![tactic(auto)]
 
 ghost use Rattle.std.specs.Prelude.{◌≡◌, ℕ, List, ◌++◌, IfOk, string_bytes, OnOk};

@@ -1,4 +1,4 @@
-//! What `reduce` prints: the reduced machine, or the line of a refusal.
+//! The plain listing of a reduced machine, or the line of a refusal.
 use crate::chains::{CHANGES, changed};
 use listings::{Listing, show};
 use std::alloc::Global;
