@@ -46,7 +46,7 @@ back = 1
 abbrev stay : ℕ
 stay = 2
 
-pub record Marked-examples : Type 0 where
+pub record MarkedExamples : Type 0 where
   -- the bytes of T6 open, as a machine of six states and two inputs that starts at 0
   pub opens : chain_opening T6_bytes ≡ Ok T6
   pub states : T6.states ≡ 6

@@ -1,4 +1,4 @@
-use Rattle.std.proofs.Common.{ℕ, ◌/◌, List, ap, ◌∙◌}
+use Rattle.std.proofs.Common.{ℕ, ◌/◌, ap, ◌∙◌}
 use Rattle.forms.specs.Forms.{ring_of}
 use Rattle.forms.specs.Rings.{ring_meaning}
 use Rattle.layers.specs.Keymaps.{keymap}

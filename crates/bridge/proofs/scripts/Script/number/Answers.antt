@@ -1,4 +1,4 @@
-use Rattle.std.proofs.Common.{vec_items, sym, refl, arith, rules}
+use Rattle.std.proofs.Common.{vec_items, sym, refl, arith}
 use Rattle.std.proofs.lemmas.List.{get_or_past}
 use Rattle.bridge.proofs.scripts.Script.number.Goals as goal
 
