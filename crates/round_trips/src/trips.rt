@@ -5,7 +5,6 @@ use layers::{Beside, Keymap, LayerFault, PairFault, Train};
 use machine::{Cause, CheckRefusal, Command, Fault, Machine, StoredFault};
 use six_states::{CELLS, FRONT, RECORDS};
 use std::alloc::Global;
-use std::process::Abort;
 use std::test::Fail;
 use writing::{NormalRefusal, WriteRefusal, normalised, write_chain};
 
@@ -38,25 +37,30 @@ fn bytes_of(heap: Global, front: &[u16], records: &[[u16; 5]]) -> Result<Vec<u8>
     Ok(bytes)
 }
 
+/// What an assert says in a test, where no handle is at hand that may end the process.
+fn expect(holds: bool) -> Result<(), Fail> {
+    if holds {
+        Ok(())
+    } else {
+        Err("not as expected".into())
+    }
+}
+
 /// Writes a machine into a larger buffer, compares all of it with the expected chain, and opens that again.
-fn goes_round<M: Machine<Out = Command>>(
-    rt: &impl Abort,
-    machine: &M,
-    expected: Vec<u8>,
-) -> Result<(), Fail> {
+fn goes_round<M: Machine<Out = Command>>(machine: &M, expected: Vec<u8>) -> Result<(), Fail> {
     let mut out = [7u8; 200];
     let Ok(count) = write_chain(machine, &mut out) else {
         return Err("refused".into());
     };
-    assert_eq!(rt; count, expected.len());
+    expect(count == expected.len())?;
     for (i, byte) in out.iter().enumerate() {
-        assert_eq!(rt; *byte, expected.get(i).copied().unwrap_or(7));
+        expect(*byte == expected.get(i).copied().unwrap_or(7))?;
     }
     let chain = Chain::open(expected)?;
-    assert_eq!(rt; chain.start(), machine.start());
+    expect(chain.start() == machine.start())?;
     for s in 0..machine.states() {
         for i in 0..machine.inputs() {
-            assert_eq!(rt; chain.entry(s, i).ok(), machine.entry(s, i).ok());
+            expect(chain.entry(s, i).ok() == machine.entry(s, i).ok())?;
         }
     }
     Ok(())
@@ -66,11 +70,7 @@ fn goes_round<M: Machine<Out = Command>>(
 fn rings_go_round(rt: HostRuntime) -> Result<(), Fail> {
     let heap = rt.alloc();
     let one = [[0, 0, 0, 1, 2], [1, 1, 0, 2, 3], [2, 2, 0, 0, 0]];
-    goes_round(
-        &rt,
-        &Ring::open(1)?,
-        bytes_of(heap, &[1, 3, 0, 3, 1], &one)?,
-    )?;
+    goes_round(&Ring::open(1)?, bytes_of(heap, &[1, 3, 0, 3, 1], &one)?)?;
     let two = [
         [0, 0, 1, 0, 2],
         [1, 1, 1, 2, 3],
@@ -79,11 +79,7 @@ fn rings_go_round(rt: HostRuntime) -> Result<(), Fail> {
         [1, 1, 0, 0, 6],
         [2, 2, 1, 0, 0],
     ];
-    goes_round(
-        &rt,
-        &Ring::open(2)?,
-        bytes_of(heap, &[2, 3, 0, 6, 1, 4], &two)?,
-    )
+    goes_round(&Ring::open(2)?, bytes_of(heap, &[2, 3, 0, 6, 1, 4], &two)?)
 }
 
 #[test]
@@ -100,11 +96,7 @@ fn a_pile_goes_round(rt: HostRuntime) -> Result<(), Fail> {
         [0, 1, 0, 0, 8],
         [2, 2, 2, 1, 0],
     ];
-    goes_round(
-        &rt,
-        &pile,
-        bytes_of(heap, &[4, 3, 0, 8, 1, 3, 5, 7], &records)?,
-    )
+    goes_round(&pile, bytes_of(heap, &[4, 3, 0, 8, 1, 3, 5, 7], &records)?)
 }
 
 #[test]
@@ -122,7 +114,6 @@ fn equal_cells_share_a_record(rt: HostRuntime) -> Result<(), Fail> {
     ];
     let records = [[0, 1, 1, 5, 2], [2, 3, 0, 5, 0], [0, 3, 1, 300, 0]];
     goes_round(
-        &rt,
         &grid(heap, 2, 4, &cells)?,
         bytes_of(heap, &[2, 4, 0, 3, 1, 3], &records)?,
     )
@@ -132,7 +123,6 @@ fn equal_cells_share_a_record(rt: HostRuntime) -> Result<(), Fail> {
 fn six_states_take_140_bytes(rt: HostRuntime) -> Result<(), Fail> {
     let heap = rt.alloc();
     goes_round(
-        &rt,
         &grid(heap, 6, 2, &CELLS)?,
         bytes_of(heap, &FRONT, &RECORDS)?,
     )
