@@ -4,7 +4,6 @@ ghost use Rattle.bridge.specs.declared.troubles.Trouble.TheVariants.{Open, Memor
 
 use forms::OpenRefusal;
 use std::alloc::{AllocError, AllocFailed};
-use std::fmt;
 
 /// A form that does not open, or no memory.
 #[derive(Drop)]
@@ -33,14 +32,6 @@ impl<T: Drop> From<AllocFailed<T>> for Trouble {
     ghost from_gives = { λ _ r. r ≡ Memory };
 
     fn from(_refused: AllocFailed<T>) -> Trouble {
-        Trouble::Memory
-    }
-}
-
-impl From<fmt::Error> for Trouble {
-    ghost from_gives = { λ _ r. r ≡ Memory };
-
-    fn from(_error: fmt::Error) -> Trouble {
         Trouble::Memory
     }
 }

@@ -1,4 +1,6 @@
 //! What is written of rings, grids and a pile, byte by byte, and what is read again.
+ghost use Rattle.std.specs.Prelude.{◌≡◌, is_ok};
+
 use forms::grids::BLANK;
 use forms::{Chain, Grid, OpenRefusal, Ring};
 use layers::{Beside, Keymap, LayerFault, PairFault, Train};
@@ -38,7 +40,9 @@ fn bytes_of(heap: Global, front: &[u16], records: &[[u16; 5]]) -> Result<Vec<u8>
 }
 
 /// What an assert says in a test, where no handle is at hand that may end the process.
-fn expect(holds: bool) -> Result<(), Fail> {
+fn expect(holds: bool) -> Result<(), Fail>
+    ensures { is_ok result ≡ holds }
+{
     if holds {
         Ok(())
     } else {
