@@ -8,8 +8,7 @@ ghost use Rattle.std.proofs.Common.{rules, arith};
 
 use crate::Chain;
 use crate::bytes::number_at;
-use crate::entries::test_bounds;
-use machine::{Cause, Cell, Command, Machine, StoredFault};
+use machine::{Cause, Cell, Command, Machine, StoredFault, test_range};
 
 /// A record serves the inputs `from` to `to`; `link` is the next record of its state, or 0.
 #[derive(Clone, Copy)]
@@ -55,7 +54,7 @@ impl Machine for Chain {
     }
 
     fn entry(&self, state: u16, input: u16) -> Result<Cell<Command>, StoredFault> {
-        test_bounds(self.states(), self.inputs(), state, input)?;
+        test_range::<StoredFault>(self.states(), self.inputs(), state, input)?;
         walked(&self.bytes, state, input)
     }
 }

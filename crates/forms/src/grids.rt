@@ -6,8 +6,7 @@ ghost use Rattle.forms.specs.Grids.{grid_cell};
 ghost use Rattle.std.proofs.Common.{rules, arith};
 
 use crate::Grid;
-use crate::entries::test_bounds;
-use machine::{Cause, Cell, Machine, Output, StoredFault};
+use machine::{Cause, Cell, Machine, Output, StoredFault, test_range};
 
 /// The next state of a blank cell.
 pub const BLANK: u16 = 65535;
@@ -38,7 +37,7 @@ impl<O: Output> Machine for Grid<O> {
     }
 
     fn entry(&self, state: u16, input: u16) -> Result<Cell<O>, StoredFault> {
-        test_bounds(self.states, self.inputs, state, input)?;
+        test_range::<StoredFault>(self.states, self.inputs, state, input)?;
         let place = state as usize * self.inputs as usize + input as usize;
         stored(
             self.states,

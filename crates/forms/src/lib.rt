@@ -46,7 +46,6 @@ pub struct Chain {
 
 mod bytes;
 pub mod chains;
-mod entries;
 pub mod grids;
 pub mod openings;
 pub mod rings;

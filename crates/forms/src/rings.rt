@@ -3,8 +3,7 @@ ghost use Rattle.forms.specs.Forms.{ring_of};
 ghost use Rattle.std.proofs.Common.{rules, arith};
 
 use crate::Ring;
-use crate::entries::test_bounds;
-use machine::{Cell, Command, Machine, StoredFault};
+use machine::{Cell, Command, Machine, StoredFault, test_range};
 
 /// The keys of a ring.
 pub const FORWARD: u16 = 0;
@@ -39,7 +38,7 @@ impl Machine for Ring {
     }
 
     fn entry(&self, state: u16, input: u16) -> Result<Cell<Command>, StoredFault> {
-        test_bounds(self.size, STAY + 1, state, input)?;
+        test_range::<StoredFault>(self.size, STAY + 1, state, input)?;
         let last = self.size - 1;
         let (next, number) = match input {
             FORWARD if state == last => (0, 1),

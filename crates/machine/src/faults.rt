@@ -1,7 +1,7 @@
 //! Why an entry is no cell.
-ghost use Rattle.std.specs.Prelude.{◌≡◌, Some};
+ghost use Rattle.std.specs.Prelude.{◌≡◌, ℕ, Some};
 ghost use Rattle.machine.specs.declared.faults.Cause.{Cause};
-ghost use Rattle.machine.specs.Causes.{cause_number, cause_text, fault_text, range_cause};
+ghost use Rattle.machine.specs.Causes.{cause_number, cause_text, fault_text, range_cause, range_test, stored_own};
 
 use std::fmt;
 
@@ -73,6 +73,24 @@ pub trait Fault: Drop {
         ensures { result ≡ root self.now };
 }
 
+/// A fault that a machine finds itself, and no part of it: a cause at a state and an input is all that it needs.
+pub trait OwnFault: Fault {
+    ghost own: { Cause → ℕ → ℕ → Self };
+
+    fn own(cause: Cause, state: u16, input: u16) -> Self
+        ensures { result ≡ own cause state input };
+}
+
+/// Lets a state and an input pass that are below their counts, or tells cause 1 or 2.
+pub fn test_range<F: OwnFault>(states: u16, inputs: u16, state: u16, input: u16) -> Result<(), F>
+    ensures { result ≡ range_test F.own states inputs state input }
+{
+    match Cause::of_range(states, inputs, state, input) {
+        Some(cause) => Err(F::own(cause, state, input)),
+        None => Ok(()),
+    }
+}
+
 /// A fault of a stored form. The place says where in the form's own store; each form says what it counts.
 #[derive(Clone, Copy, PartialEq, Eq, Debug)]
 pub struct StoredFault {
@@ -87,6 +105,20 @@ impl Fault for StoredFault {
 
     fn cause(&self) -> Cause {
         self.cause
+    }
+}
+
+impl OwnFault for StoredFault {
+    ghost own = { stored_own };
+
+    // a fault that is found before the store is asked has place 0
+    fn own(cause: Cause, state: u16, input: u16) -> StoredFault {
+        StoredFault {
+            cause,
+            state,
+            input,
+            place: 0,
+        }
     }
 }
 

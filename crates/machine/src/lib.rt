@@ -5,7 +5,7 @@ ghost use Rattle.std.specs.Prelude.{◌≡◌};
 ghost use Rattle.machine.specs.Meaning.{Meaning, Sizes, Inside, Closed};
 
 pub use crate::checks::{CheckRefusal, check};
-pub use crate::faults::{Cause, Fault, StoredFault};
+pub use crate::faults::{Cause, Fault, OwnFault, StoredFault, test_range};
 pub use crate::outputs::{Command, Output, WheelMove};
 
 /// What the panel can hold.

@@ -1,6 +1,9 @@
 //! Output kinds: what a cell can put out, and when two outputs are alike.
-ghost use Rattle.std.specs.Prelude.{◌≡◌, List, [], ◌∷◌, ℤ, pos, Decides};
+ghost use Rattle.std.specs.Prelude.{◌≡◌, List, [], ◌∷◌, ℤ, pos, Decides, Some};
+ghost use Rattle.machine.specs.Outputs.{command_text, wheel_text};
 ghost use Rattle.machine.specs.Wheels.{hundredths, Nearest, Carried, wheel_key};
+
+use std::fmt;
 
 /// A kind gives each value a key; two values are alike exactly when their keys are equal.
 pub trait Output: Copy {
@@ -24,6 +27,15 @@ impl Output for Command {
     }
 }
 
+impl fmt::Display for Command {
+    ghost output = { λ c. Some (command_text c) };
+
+    fn fmt<W: fmt::Write>(&self, f: &mut fmt::Formatter<W>) -> fmt::Result {
+        let Command { number } = *self;
+        write!(f, "{number}")
+    }
+}
+
 /// A move of the three grading wheels, in thousandths.
 #[derive(Clone, Copy, PartialEq, Eq, Debug)]
 pub struct WheelMove {
@@ -39,6 +51,15 @@ impl Output for WheelMove {
         same_step(self.lift, other.lift)
             && same_step(self.gamma, other.gamma)
             && same_step(self.gain, other.gain)
+    }
+}
+
+impl fmt::Display for WheelMove {
+    ghost output = { λ w. Some (wheel_text w) };
+
+    fn fmt<W: fmt::Write>(&self, f: &mut fmt::Formatter<W>) -> fmt::Result {
+        let WheelMove { lift, gamma, gain } = *self;
+        write!(f, "{lift}/{gamma}/{gain}")
     }
 }
 
