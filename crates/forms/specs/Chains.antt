@@ -4,7 +4,7 @@
 --   Trail, trail, walk   the records that a walk reads, and how it ends
 --   Rising, WalksRise    each record read is above the one before
 --   given, chain_entry   the cell that a walk gives, and the answer for a state and an input
-use Rattle.std.specs.Prelude.{ℕ, zero, suc, ◌+◌, ◌-◌, ◌*◌, ◌<◌, ◌≤◌, Bool, cond, not, ◌&&◌, List, length, Ok, Err, Result, ◌==◌, nat_le, nat_lt}
+use Rattle.std.specs.Prelude.{ℕ, zero, suc, ◌+◌, ◌-◌, ◌*◌, ◌<◌, ◌≤◌, Bool, cond, not, ◌&&◌, List, length, Some, None, Ok, Err, Option, Result, ◌==◌, nat_le, nat_lt}
 use Rattle.machine.specs.Meaning.{Meaning}
 use Rattle.machine.specs.declared.Cell.{Cell}
 use Rattle.machine.specs.declared.faults.Cause.TheVariants as cause
@@ -37,11 +37,7 @@ pub data Trail : Type 0 where
   Ended : Trail
   Broken : Trail
 
--- the link r of record p is followed, where there are m records: only upward, so that a walk ends
-abbrev pub Follows : ℕ → ℕ → ℕ → Type 0
-Follows p r m = (p < r) × (r ≤ m)
-
--- the same, as a test
+-- whether the link r of record p is followed, where there are m records: only upward, so that a walk ends
 abbrev pub follows : ℕ → ℕ → ℕ → Bool
 follows p r m = nat_lt p r && nat_le r m
 
@@ -75,6 +71,10 @@ covers c i = nat_le c.from i && nat_le i c.to
 -- the cell that record r gives: its next state must be one of n
 abbrev pub record_cell : ℕ → ℕ → ℕ → ℕ → Record → Result (Cell Command) StoredFault
 record_cell n s i r c = cond (nat_le n c.next) (fault cause.Next s i r) (cell c.next (command c.output))
+
+-- the same without a fault: the cell of a record that leads to a state
+abbrev pub led : List ℕ → Record → Option (Cell Command)
+led bs c = cond (nat_le (states bs) c.next) None (Some (record { next = c.next; output = command c.output }))
 
 -- what a walk gives, after record p: the cell of the first record that serves the input
 abbrev pub given : List ℕ → ℕ → ℕ → ℕ → Trail → Result (Cell Command) StoredFault

@@ -20,6 +20,7 @@ pub struct Grid<O> {
     states: u16,
     inputs: u16,
     start: u16,
+    // stays: the caller hands in two lists; to join them would take memory, and opening cannot fail for want of it
     next: Vec<u16>,
     outputs: Vec<O>,
     ghost some_states: { 1 ≤ states },

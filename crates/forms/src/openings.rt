@@ -44,7 +44,7 @@ impl OpenRefusal {
 fn test_sizes(states: u16, inputs: u16, start: u16) -> Result<(), OpenRefusal>
     ensures { result ≡ size_test states inputs start }
 {
-    if states == 0 || states > MOST_STATES || inputs == 0 || inputs > MOST_INPUTS {
+    if !(1..=MOST_STATES).contains(&states) || !(1..=MOST_INPUTS).contains(&inputs) {
         return Err(OpenRefusal::Size);
     }
     if start >= states {

@@ -6,6 +6,7 @@ use crate::Ring;
 use machine::{Cell, Command, Machine, StoredFault, test_range};
 
 /// The keys of a ring.
+// stays: the inputs of every machine are numbers, and these are the ring's
 pub const FORWARD: u16 = 0;
 
 pub const BACK: u16 = 1;
@@ -38,7 +39,7 @@ impl Machine for Ring {
     }
 
     fn entry(&self, state: u16, input: u16) -> Result<Cell<Command>, StoredFault> {
-        test_range::<StoredFault>(self.size, STAY + 1, state, input)?;
+        test_range::<StoredFault>(self.size, self.inputs(), state, input)?;
         let last = self.size - 1;
         let (next, number) = match input {
             FORWARD if state == last => (0, 1),

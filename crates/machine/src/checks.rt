@@ -37,18 +37,16 @@ pub fn check<M: Machine>(machine: &M) -> Result<(), CheckRefusal<M::Fault>>
         };
         return Err(CheckRefusal::Misfit(fault));
     }
-    'hole: {
-        'states: for s in 0..states {
-            'inputs: for i in 0..inputs {
-                if let Err(fault) = machine.entry(s, i) {
-                    break 'hole Err(CheckRefusal::Hole {
-                        state: s,
-                        input: i,
-                        fault,
-                    });
-                }
-            }
+    for state in 0..states {
+        for input in 0..inputs {
+            machine
+                .entry(state, input)
+                .map_err(|fault| CheckRefusal::Hole {
+                    state,
+                    input,
+                    fault,
+                })?;
         }
-        Ok(())
     }
+    Ok(())
 }
