@@ -73,8 +73,8 @@ abbrev pub record_cell : ℕ → ℕ → ℕ → ℕ → Record → Result (Cell
 record_cell n s i r c = cond (nat_le n c.next) (fault cause.Next s i r) (cell c.next (command c.output))
 
 -- the same without a fault: the cell of a record that leads to a state
-abbrev pub led : List ℕ → Record → Option (Cell Command)
-led bs c = cond (nat_le (states bs) c.next) None (Some (record { next = c.next; output = command c.output }))
+abbrev pub cell_from : List ℕ → Record → Option (Cell Command)
+cell_from bs c = cond (nat_le (states bs) c.next) None (Some (record { next = c.next; output = command c.output }))
 
 -- what a walk gives, after record p: the cell of the first record that serves the input
 abbrev pub given : List ℕ → ℕ → ℕ → ℕ → Trail → Result (Cell Command) StoredFault

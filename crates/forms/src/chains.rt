@@ -1,7 +1,7 @@
 //! Reading a chain.
 ghost use Rattle.std.specs.Prelude.{◌≡◌, ◌<◌, Some, None, cond};
 ghost use Rattle.forms.specs.Bytes.{states, count};
-ghost use Rattle.forms.specs.Chains.{record_at, follows, covers, led, walk, given, WalksRise};
+ghost use Rattle.forms.specs.Chains.{record_at, follows, covers, cell_from, walk, given, WalksRise};
 ghost use Rattle.forms.specs.Forms.{chain_of};
 ghost use Rattle.forms.specs.Walks.{chain_closed};
 ghost use Rattle.std.proofs.Common.{rules, arith};
@@ -108,7 +108,7 @@ impl Chain {
 
     /// The cell of a record, if it leads to one of the states.
     fn cell_of(&self, record: Record) -> Option<Cell<Command>>
-        ensures { result ≡ led self.now.bytes.items «record» }
+        ensures { result ≡ cell_from self.now.bytes.items «record» }
     {
         if record.next >= self.states() {
             return None;
