@@ -1,5 +1,5 @@
 -- A machine under a key map.
-use Rattle.std.specs.Prelude.{ℕ, ◌-◌, Bool, not, ◌&&◌, List, ◌++◌, length, take, replicate, Result, ◌==◌, nat_le, slice_index}
+use Rattle.std.specs.Prelude.{ℕ, Bool, not, ◌&&◌, List, length, Result, ◌==◌, nat_le, slice_index}
 use Rattle.machine.specs.Meaning.{Meaning}
 use Rattle.machine.specs.declared.Cell.{Cell}
 use Rattle.machine.specs.declared.Machine as machines
@@ -9,13 +9,9 @@ use Rattle.layers.specs.declared.faults.KeymapFault.TheVariants as side
 use Rattle.layers.specs.Faults.{in_part}
 use Rattle.layers.specs.Layers.{layer, part_misfit}
 
--- a list in 32 places, with 0 behind it
-abbrev pub padded : List ℕ → List ℕ
-padded ks = ks ++ replicate (32 - length ks) 0
-
 -- the keys that a key map holds
 abbrev pub kept : {P : Type 0} → Keymap P → List ℕ
-kept m = take m.count m.keys
+kept m = m.keys.items
 
 module _ {O F : Type 0} where
   -- the part is no misfit, and there are 1 to 32 keys

@@ -2,13 +2,17 @@
 --   own_fault, bounds_test     the layer's own fault, and its test for causes 1 and 2
 --   carried                    the fault of a part that is a misfit
 --   pair_misfit, part_misfit   why parts do not go together
+--   MisfitOf                   whether a part is a misfit, and with which fault
+--   counts_of                  the counts that a layer has
 --   layer                      what a layer means, and in which order it finds causes
 --   Carries                    a layer answers with the faults of a part that is a misfit
-use Rattle.std.specs.Prelude.{◌≡◌, ℕ, Bool, cond, Some, None, Ok, Err, Option, Result, ◌==◌}
-use Rattle.machine.specs.Causes.{range_cause}
+use Rattle.std.specs.Prelude.{◌≡◌, ℕ, ◌≤◌, Bool, cond, Ok, Err, Option, Result, MatchOption, ◌==◌}
+use Rattle.std.specs.Bool.{then_some}
+use Rattle.machine.specs.Causes.{range_test}
 use Rattle.machine.specs.Meaning.{Meaning}
 use Rattle.machine.specs.declared.faults.Cause.{Cause}
 use Rattle.machine.specs.declared.faults.Cause.TheVariants as cause
+use Rattle.layers.specs.declared.counts.Counts.{Counts}
 use Rattle.layers.specs.declared.faults.KeymapFault.{KeymapFault}
 use Rattle.layers.specs.declared.faults.KeymapFault.TheVariants as keymap
 use Rattle.layers.specs.declared.faults.LayerFault.{LayerFault}
@@ -19,14 +23,9 @@ use Rattle.layers.specs.declared.faults.PairFault.TheVariants as pair
 abbrev pub own_fault : Cause → ℕ → ℕ → LayerFault
 own_fault c s i = record { cause = c; state = s; input = i }
 
--- a cause of the range, 1 or 2, as the layer's own fault
-abbrev pub range_fault : ℕ → ℕ → Option Cause → Result (Unit {0}) LayerFault
-range_fault s i (Some c) = Err (own_fault c s i)
-range_fault s i None = Ok tt
-
 -- the state is one of n, and then the input one of k
 abbrev pub bounds_test : ℕ → ℕ → ℕ → ℕ → Result (Unit {0}) LayerFault
-bounds_test n k s i = range_fault s i (range_cause n k s i)
+bounds_test = range_test own_fault
 
 -- what comes after the layer's own test
 abbrev pub tested : {X F : Type 0} → (LayerFault → F) → Result (Unit {0}) LayerFault → Result X F → Result X F
@@ -37,6 +36,10 @@ tested own (Err f) next = Err (own f)
 abbrev pub carried : {X F G : Type 0} → (F → G) → G → Result X F → G
 carried side none (Ok x) = none
 carried side none (Err f) = side f
+
+-- what is known of a part: the fault of a misfit, and none of any other
+abbrev pub MisfitOf : {O F : Type 0} → Meaning O F → ℕ → ℕ → Option F → Type 0
+MisfitOf m s i r = MatchOption r (1 ≤ m.states) (λ f. (m.states ≡ 0) × (m.entry s i ≡ Err f))
 
 -- the fault of the part that is a misfit, the first before the second; the layer's own if neither is
 abbrev pub pair_misfit : {O P F G : Type 0} → Meaning O F → Meaning P G → ℕ → ℕ → PairFault F G
@@ -59,6 +62,10 @@ layer own fits m misfit = record {
   start = cond fits m.start 0;
   entry = λ s i. cond fits (tested own (bounds_test m.states m.inputs s i) (m.entry s i)) (Err (misfit s i));
 }
+
+-- the counts of m where a layer's parts go together
+abbrev pub counts_of : {O F : Type 0} → Bool → Meaning O F → Option Counts
+counts_of fits m = then_some fits (record { states = m.states; inputs = m.inputs })
 
 -- Every answer of a part that is a misfit is a fault, and the layer's answer for the same numbers is that fault, on its side.
 abbrev pub Carries : {O P F G : Type 0} → (F → G) → Meaning O F → Meaning P G → Type 0

@@ -1,13 +1,13 @@
 -- A cell that comes up through a layer is the part's own, and so its next state is one of the part's.
 use Rattle.std.specs.Prelude.{◌≡◌, ℕ, ◌<◌, Ok, Err, Result}
-use Rattle.std.proofs.Common.{sym, ◌∙◌, arith}
+use Rattle.std.proofs.Common.{sym, ◌∙◌}
 use Rattle.machine.specs.Meaning.{Meaning, Closed}
 use Rattle.machine.specs.declared.Cell.{Cell}
 use Rattle.layers.specs.declared.faults.PairFault.{PairFault}
 use Rattle.layers.specs.Faults.{in_first, in_second, in_part}
 
 pub err_no_cell : {X F : Type 0} (e : F) (x : X) → ◌≡◌ {A = Result X F} (Err e) (Ok x) → ⊥
-err_no_cell e x h = let z : ◌≡◌ {A = ℕ} 0 1 = cc in omega arith
+err_no_cell e x h = cc
 
 pub first_ok : {X F : Type 0} (G : Type 0) (r : Result X F) (x : X) → in_first {G = G} r ≡ Ok x → r ≡ Ok x
 first_ok G (Ok y) x h = cc

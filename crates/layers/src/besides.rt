@@ -1,12 +1,12 @@
 //! Two machines beside each other.
 ghost use Rattle.std.specs.Prelude.{◌≡◌, ◌≤◌};
-ghost use Rattle.layers.specs.Besides.{beside, beside_fits, beside_of};
-ghost use Rattle.layers.specs.Layers.{Carries};
+ghost use Rattle.layers.specs.Besides.{beside, beside_fits, beside_of, beside_whole};
+ghost use Rattle.layers.specs.Layers.{Carries, counts_of};
 ghost use Rattle.layers.specs.declared.faults.PairFault.TheVariants as pair;
 ghost use Rattle.layers.specs.BesideLaws.{beside_sizes, beside_inside, beside_closed};
 
-use crate::bounds::test_bounds;
-use crate::faults::{in_first, in_second};
+use crate::counts::Counts;
+use crate::faults::{InFirst, InSecond};
 use crate::misfits::pair_misfit;
 use crate::{Beside, PairFault};
 use machine::{Cell, Fault as _, MOST_STATES, Machine};
@@ -21,15 +21,20 @@ impl<P: Machine, Q: Machine<Out = P::Out>> Beside<P, Q> {
         Beside { first, second }
     }
 
-    fn fits(&self) -> bool
-        ensures { result ≡ beside_fits (P.Machine.means self.now.first) (Q.Machine.means self.now.second) }
+    fn counts(&self) -> Option<Counts>
+        ensures { let first = P.Machine.means self.now.first in
+            let second = Q.Machine.means self.now.second in
+            result ≡ counts_of (beside_fits first second) (beside_whole first second) }
     {
         let first = self.first.states();
         let second = self.second.states();
-        first != 0
+        let states = first + second;
+        let inputs = self.first.inputs();
+        let fits = first != 0
             && second != 0
-            && self.first.inputs() == self.second.inputs()
-            && first + second <= MOST_STATES
+            && inputs == self.second.inputs()
+            && states <= MOST_STATES;
+        fits.then_some(Counts { states, inputs })
     }
 }
 
@@ -51,40 +56,31 @@ impl<P: Machine, Q: Machine<Out = P::Out>> Machine for Beside<P, Q> {
         (P.Machine.closed m.first) (Q.Machine.closed m.second) };
 
     fn states(&self) -> u16 {
-        if self.fits() {
-            self.first.states() + self.second.states()
-        } else {
-            0
-        }
+        self.counts().map_or(0, |counts| counts.states)
     }
 
     fn inputs(&self) -> u16 {
-        if self.fits() { self.first.inputs() } else { 0 }
+        self.counts().map_or(0, |counts| counts.inputs)
     }
 
     fn start(&self) -> u16 {
-        if self.fits() { self.first.start() } else { 0 }
+        self.counts().map_or(0, |_| self.first.start())
     }
 
     fn entry(&self, state: u16, input: u16) -> Result<Cell<P::Out>, PairFault<P::Fault, Q::Fault>> {
-        if !self.fits() {
+        let Some(counts) = self.counts() else {
             return Err(pair_misfit(&self.first, &self.second, state, input));
-        }
+        };
+        counts.test(state, input)?;
         let shift = self.first.states();
-        test_bounds(
-            shift + self.second.states(),
-            self.first.inputs(),
-            state,
-            input,
-        )?;
-        if state < shift {
-            let cell = in_first(self.first.entry(state, input))?;
-            return Ok(cell);
-        }
-        let moved = in_second(self.second.entry(state - shift, input))?;
-        Ok(Cell {
-            next: shift + moved.next,
-            output: moved.output,
+        Ok(if state < shift {
+            self.first.entry(state, input).map_err(InFirst)?
+        } else {
+            let moved = self.second.entry(state - shift, input).map_err(InSecond)?;
+            Cell {
+                next: shift + moved.next,
+                ..moved
+            }
         })
     }
 }

@@ -1,10 +1,11 @@
 //! Why a layer has no cell: a fault of its own, or that of a part, carried whole on its side.
 ghost use Rattle.std.specs.Prelude.{◌≡◌, Some};
-ghost use Rattle.layers.specs.Faults.{in_first, in_second, in_part, keymap_root, keymap_text, layer_text, pair_root, pair_text};
+ghost use Rattle.layers.specs.Faults.{keymap_root, keymap_text, layer_text, pair_root, pair_text};
+ghost use Rattle.layers.specs.Layers.{own_fault};
 ghost use Rattle.layers.specs.declared.faults.KeymapFault.TheVariants as keymap;
 ghost use Rattle.layers.specs.declared.faults.PairFault.TheVariants as pair;
 
-use machine::{Cause, Fault};
+use machine::{Cause, Fault, OwnFault};
 use std::fmt;
 
 /// A fault of the layer itself: cause 1, 2 or 6.
@@ -35,6 +36,18 @@ impl Fault for LayerFault {
 
     fn cause(&self) -> Cause {
         self.cause
+    }
+}
+
+impl OwnFault for LayerFault {
+    ghost own = { own_fault };
+
+    fn own(cause: Cause, state: u16, input: u16) -> LayerFault {
+        LayerFault {
+            cause,
+            state,
+            input,
+        }
     }
 }
 
@@ -114,30 +127,25 @@ impl<F> From<LayerFault> for KeymapFault<F> {
     }
 }
 
-/// What a part answered, as its layer passes it up.
-pub(crate) fn in_first<T, F, G>(answer: Result<T, F>) -> Result<T, PairFault<F, G>>
-    ensures { result ≡ in_first answer }
-{
-    match answer {
-        Ok(cell) => Ok(cell),
-        Err(fault) => Err(PairFault::First(fault)),
+/// The fault of the first or lower part, which goes up whole, on its side, by `?`. The check does not cover
+/// `map_err(PairFault::First)`: its result names a type, the other part's fault, that its argument does not.
+pub(crate) struct InFirst<F>(pub F);
+
+/// The same of the second or upper part.
+pub(crate) struct InSecond<G>(pub G);
+
+impl<F, G> From<InFirst<F>> for PairFault<F, G> {
+    ghost from_gives = { λ side r. r ≡ pair.First side.0 };
+
+    fn from(InFirst(fault): InFirst<F>) -> PairFault<F, G> {
+        PairFault::First(fault)
     }
 }
 
-pub(crate) fn in_second<T, F, G>(answer: Result<T, G>) -> Result<T, PairFault<F, G>>
-    ensures { result ≡ in_second answer }
-{
-    match answer {
-        Ok(cell) => Ok(cell),
-        Err(fault) => Err(PairFault::Second(fault)),
-    }
-}
+impl<F, G> From<InSecond<G>> for PairFault<F, G> {
+    ghost from_gives = { λ side r. r ≡ pair.Second side.0 };
 
-pub(crate) fn in_part<T, F>(answer: Result<T, F>) -> Result<T, KeymapFault<F>>
-    ensures { result ≡ in_part answer }
-{
-    match answer {
-        Ok(cell) => Ok(cell),
-        Err(fault) => Err(KeymapFault::Part(fault)),
+    fn from(InSecond(fault): InSecond<G>) -> PairFault<F, G> {
+        PairFault::Second(fault)
     }
 }

@@ -1,9 +1,8 @@
 //! Machines made of machines: two beside each other, one that feeds another, and one under a key map.
 #![tactic(auto)]
 
-ghost use Rattle.std.specs.Prelude.{◌≡◌, ◌≤◌, length};
-
 pub use crate::faults::{KeymapFault, LayerFault, PairFault};
+use arrayvec::ArrayVec;
 
 /// The most keys of a key map: the panel has no more inputs.
 pub const MOST_KEYS: usize = 32;
@@ -27,15 +26,11 @@ pub struct Train<L, U> {
 pub struct Keymap<P> {
     part: P,
     /// no key where the list was too long, since both make a misfit
-    count: usize,
-    /// 0 behind the keys
-    keys: [u16; MOST_KEYS],
-    ghost few: { count ≤ 32 },
-    ghost whole: { length keys ≡ 32 },
+    keys: ArrayVec<u16, MOST_KEYS>,
 }
 
 pub mod besides;
-mod bounds;
+mod counts;
 pub mod faults;
 pub mod keymaps;
 mod misfits;

@@ -1,19 +1,19 @@
 //! Why parts do not go together.
-ghost use Rattle.std.specs.Prelude.{◌≡◌, Err};
-ghost use Rattle.layers.specs.Layers.{pair_misfit, part_misfit};
+ghost use Rattle.std.specs.Prelude.{◌≡◌};
+ghost use Rattle.layers.specs.Layers.{MisfitOf, pair_misfit, part_misfit};
 
 use crate::{KeymapFault, LayerFault, PairFault};
-use machine::{Cause, Machine};
+use machine::{Cause, Machine, OwnFault as _};
 
-/// A misfit has a fault for every state and input.
-fn fault_of<M: Machine>(misfit: &M, state: u16, input: u16) -> M::Fault
-    requires { (M.Machine.means misfit.now).states ≡ 0 }
-    ensures { (M.Machine.means misfit.now).entry state input ≡ Err result }
+/// The fault of a part that is a misfit, which has one for every state and input.
+fn misfit_of<M: Machine>(part: &M, state: u16, input: u16) -> Option<M::Fault>
+    ensures { MisfitOf (M.Machine.means part.now) state input result }
 {
-    let Err(fault) = misfit.entry(state, input) else {
-        unreachable()
-    };
-    fault
+    if part.states() == 0 {
+        part.entry(state, input).err()
+    } else {
+        None
+    }
 }
 
 /// The fault of the part that is a misfit, the first before the second; the layer's own if neither is.
@@ -25,28 +25,20 @@ pub(crate) fn pair_misfit<P: Machine, Q: Machine>(
 ) -> PairFault<P::Fault, Q::Fault>
     ensures { result ≡ pair_misfit (P.Machine.means first.now) (Q.Machine.means second.now) state input }
 {
-    if first.states() == 0 {
-        return PairFault::First(fault_of(first, state, input));
+    if let Some(fault) = misfit_of(first, state, input) {
+        PairFault::First(fault)
+    } else if let Some(fault) = misfit_of(second, state, input) {
+        PairFault::Second(fault)
+    } else {
+        PairFault::Own(LayerFault::own(Cause::Misfit, state, input))
     }
-    if second.states() == 0 {
-        return PairFault::Second(fault_of(second, state, input));
-    }
-    PairFault::Own(LayerFault {
-        cause: Cause::Misfit,
-        state,
-        input,
-    })
 }
 
 pub(crate) fn part_misfit<P: Machine>(part: &P, state: u16, input: u16) -> KeymapFault<P::Fault>
     ensures { result ≡ part_misfit (P.Machine.means part.now) state input }
 {
-    if part.states() == 0 {
-        return KeymapFault::Part(fault_of(part, state, input));
-    }
-    KeymapFault::Own(LayerFault {
-        cause: Cause::Misfit,
-        state,
-        input,
-    })
+    misfit_of(part, state, input).map_or(
+        KeymapFault::Own(LayerFault::own(Cause::Misfit, state, input)),
+        KeymapFault::Part,
+    )
 }

@@ -1,12 +1,12 @@
 //! A machine that feeds another.
 ghost use Rattle.std.specs.Prelude.{◌≡◌, ◌≤◌};
-ghost use Rattle.layers.specs.Layers.{Carries};
-ghost use Rattle.layers.specs.Trains.{fed, train, train_fits, train_of};
+ghost use Rattle.layers.specs.Layers.{Carries, counts_of};
+ghost use Rattle.layers.specs.Trains.{fed, train, train_fits, train_of, train_whole};
 ghost use Rattle.layers.specs.declared.faults.PairFault.TheVariants as pair;
 ghost use Rattle.layers.specs.TrainLaws.{train_sizes, train_inside, train_closed};
 
-use crate::bounds::test_bounds;
-use crate::faults::{in_first, in_second};
+use crate::counts::Counts;
+use crate::faults::{InFirst, InSecond};
 use crate::misfits::pair_misfit;
 use crate::{PairFault, Train};
 use machine::{Cell, Command, Fault as _, MOST_STATES, Machine};
@@ -21,12 +21,19 @@ impl<L: Machine<Out = Command>, U: Machine> Train<L, U> {
         Train { lower, upper }
     }
 
-    fn fits(&self) -> bool
-        ensures { result ≡ train_fits (L.Machine.means self.now.lower) (U.Machine.means self.now.upper) }
+    fn counts(&self) -> Option<Counts>
+        ensures { let lower = L.Machine.means self.now.lower in
+            let upper = U.Machine.means self.now.upper in
+            result ≡ counts_of (train_fits lower upper) (train_whole lower upper) }
     {
         let lower = self.lower.states();
         let upper = self.upper.states();
-        lower != 0 && upper != 0 && lower * upper <= MOST_STATES
+        let states = lower * upper;
+        let fits = lower != 0 && upper != 0 && states <= MOST_STATES;
+        fits.then_some(Counts {
+            states,
+            inputs: self.lower.inputs(),
+        })
     }
 }
 
@@ -35,11 +42,7 @@ fn feed(command: Command, inputs: u16) -> u16
     requires { 1 ≤ inputs }
     ensures { result ≡ fed command inputs }
 {
-    if command.number < inputs {
-        command.number
-    } else {
-        inputs - 1
-    }
+    command.number.min(inputs - 1)
 }
 
 impl<L: Machine<Out = Command>, U: Machine> Machine for Train<L, U> {
@@ -60,42 +63,31 @@ impl<L: Machine<Out = Command>, U: Machine> Machine for Train<L, U> {
         (L.Machine.closed m.lower) (U.Machine.closed m.upper) };
 
     fn states(&self) -> u16 {
-        if self.fits() {
-            self.lower.states() * self.upper.states()
-        } else {
-            0
-        }
+        self.counts().map_or(0, |counts| counts.states)
     }
 
     fn inputs(&self) -> u16 {
-        if self.fits() { self.lower.inputs() } else { 0 }
+        self.counts().map_or(0, |counts| counts.inputs)
     }
 
     fn start(&self) -> u16 {
-        if self.fits() {
+        self.counts().map_or(0, |_| {
             self.lower.start() * self.upper.states() + self.upper.start()
-        } else {
-            0
-        }
+        })
     }
 
     fn entry(&self, state: u16, input: u16) -> Result<Cell<U::Out>, PairFault<L::Fault, U::Fault>> {
-        if !self.fits() {
+        let Some(counts) = self.counts() else {
             return Err(pair_misfit(&self.lower, &self.upper, state, input));
-        }
+        };
+        counts.test(state, input)?;
         let size = self.upper.states();
-        test_bounds(
-            self.lower.states() * size,
-            self.lower.inputs(),
-            state,
-            input,
-        )?;
-        let lower = in_first(self.lower.entry(state / size, input))?;
+        let lower = self.lower.entry(state / size, input).map_err(InFirst)?;
         let fed = feed(lower.output, self.upper.inputs());
-        let upper = in_second(self.upper.entry(state % size, fed))?;
+        let upper = self.upper.entry(state % size, fed).map_err(InSecond)?;
         Ok(Cell {
             next: lower.next * size + upper.next,
-            output: upper.output,
+            ..upper
         })
     }
 }
