@@ -1,8 +1,9 @@
 -- The heads and the records of the states, one after another.
-use Rattle.std.proofs.Common.{◌≡◌, ℕ, zero, suc, ◌+◌, ◌-◌, ◌*◌, ◌<◌, ◌≤◌, List, [], ◌∷◌, ◌++◌, length, get_or, take, set, sym, refl, ap, ◌∙◌, inl, inr, append_assoc, append-nil, arith}
-use Rattle.std.proofs.lemmas.List.{length-append, get_or_append_left, get_or-append_right, get_or-take, take_more_set}
+use Rattle.std.proofs.Common.{◌≡◌, ℕ, zero, suc, ◌+◌, ◌-◌, ◌*◌, ◌<◌, ◌≤◌, List, [], ◌∷◌, ◌++◌, length, get_or, sym, refl, ap, ◌∙◌, inl, inr, append_assoc, append-nil, arith}
+use Rattle.std.proofs.lemmas.List.{length-append, get_or_append_left, get_or-append_right}
 use Rattle.std.proofs.lemmas.Bool.{cases_lt}
-use Rattle.machine.specs.Meaning.{Meaning}
+use Rattle.machine.proofs.Theory.{few_states, few_inputs}
+use Rattle.machine.specs.Meaning.{Meaning, Sizes}
 use Rattle.machine.specs.declared.Cell.{Cell}
 use Rattle.machine.specs.declared.outputs.Command.{Command}
 use Rattle.writing.specs.Bytes.{puts}
@@ -16,6 +17,9 @@ module _ {F : Type 0} (m : Meaning Command F) where
   length_heads zero = refl
   length_heads (suc s) = omega (arith, length-append (heads m s) ((records_before m s + 1) ∷ []), length_heads s)
 
+  pub length_listed : (s : ℕ) (hs : List ℕ) → hs ≡ heads m s → length hs ≡ s
+  length_listed s hs e = ap length e ∙ length_heads s
+
   pub length_rows : (s : ℕ) → length (rows m s) ≡ 5 * records_before m s
   length_rows zero = refl
   length_rows (suc s) =
@@ -26,6 +30,10 @@ module _ {F : Type 0} (m : Meaning Command F) where
   pub before_le : (s : ℕ) → m.inputs ≤ 32 → records_before m s ≤ 32 * s
   before_le zero h = omega arith
   before_le (suc s) h = omega (arith, before_le s h, runs_le (row_of m s) m.inputs 0 0 m.inputs)
+
+  -- so all of a machine's states have at most 4096
+  pub few_before : Sizes m → (s : ℕ) → s ≤ m.states → records_before m s ≤ 4096
+  few_before sizes s h = omega (arith, before_le s (few_inputs m sizes), few_states m sizes)
 
   -- the records up to state s, and its own, are not more than those of n states
   pub before_part : (s n : ℕ) → s < n → records_before m s + length (state_runs m s) ≤ records_before m n
@@ -48,9 +56,12 @@ module _ {F : Type 0} (m : Meaning Command F) where
             ∙ (ap (λ x. get_or last x 0) z ∙ ap (λ x. records_before m x + 1) (sym e))
       ]
 
-  -- the head of state s, in a list that begins with the heads
-  pub head_in : (s n : ℕ) (hs : List ℕ) → s < n → take n hs ≡ heads m n → get_or hs s 0 ≡ records_before m s + 1
-  head_in s n hs h e = sym (get_or-take n hs s 0 h) ∙ (ap (λ x. get_or x s 0) e ∙ head_at s n h)
+  -- the head of state s, in the list of all
+  pub head_in : (s : ℕ) (hs : List ℕ) → hs ≡ heads m m.states → s < length hs
+      → (s < m.states) × (get_or hs s 0 ≡ records_before m s + 1)
+  head_in s hs e h =
+      let l : s < m.states = omega (arith, length_listed m.states hs e) in
+      (l, ap (λ x. get_or x s 0) e ∙ head_at s m.states l)
 
   -- the records of state s stand behind those of the states before it
   pub rows_part : (s n : ℕ) → s < n
@@ -76,18 +87,7 @@ module _ {F : Type 0} (m : Meaning Command F) where
   -- the count of a kept row is that of its state
   pub count_is : (s k n : ℕ) (row : ℕ → Cell Command) → row ≡ row_of m s → k ≡ m.inputs → n ≡ length (row_runs row k)
       → n ≡ length (state_runs m s)
-  count_is s k n row e f g = g ∙ (ap (λ x. length (row_runs x k)) e ∙ ap (λ x. length (row_runs (row_of m s) x)) f)
-
-  -- one state more, with its head f
-  pub planned_more : (s r f n : ℕ) (hs : List ℕ) → s < length hs → r ≡ records_before m s → f ≡ r + 1 → n ≡ length (state_runs m s)
-      → take s hs ≡ heads m s
-      → (take (s + 1) (set hs s f) ≡ heads m (s + 1)) × (r + n ≡ records_before m (s + 1))
-  planned_more s r f n hs h e k g t =
-      let q : s + 1 ≡ suc s = omega arith in
-      let first : f ≡ records_before m s + 1 = omega arith in (
-        take_more_set hs s f h ∙ (ap (λ x. x ++ (f ∷ [])) t ∙ (ap (λ x. heads m s ++ (x ∷ [])) first ∙ sym (ap (heads m) q))),
-        ap (λ x. x + n) e ∙ (ap (λ x. records_before m s + x) g ∙ sym (ap (records_before m) q)),
-      )
+  count_is s k n row e f g = cc
 
   -- one state's records more
   pub rows_more : (s k n r : ℕ) (row : ℕ → Cell Command) (bz bs bt : List ℕ) → row ≡ row_of m s → k ≡ m.inputs
@@ -97,9 +97,5 @@ module _ {F : Type 0} (m : Meaning Command F) where
   rows_more s k n r row bz bs bt e f g x y =
       let q : s + 1 ≡ suc s = omega arith in
       let of = records (row_of m s) (records_before m s + 1) (state_runs m s) in
-      y ∙ (ap (λ z. puts bs (place_of n r) (records z r (row_runs z k))) e
-      ∙ (ap (λ z. puts bs (place_of n r) (records (row_of m s) r (row_runs (row_of m s) z))) f
-      ∙ (ap (λ z. puts bs (place_of n z) (records (row_of m s) z (state_runs m s))) g
-      ∙ (ap (λ z. puts z (place_of n (records_before m s + 1)) of) x
-      ∙ (puts_append bz (4 + n) (place_of n (records_before m s + 1)) (rows m s) of (omega (arith, length_rows s))
-      ∙ ap (puts bz (4 + n)) (sym (ap (rows m) q)))))))
+      let more = puts_append bz (4 + n) (place_of n (records_before m s + 1)) (rows m s) of (omega (arith, length_rows s)) in
+      cc (more, ap (rows m) q)

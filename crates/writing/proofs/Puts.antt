@@ -1,5 +1,5 @@
 -- Numbers written one after another, and read again.
-use Rattle.std.proofs.Common.{◌≡◌, ℕ, zero, suc, ◌+◌, ◌*◌, ◌/◌, ◌%◌, ◌<◌, ◌≤◌, List, [], ◌∷◌, ◌++◌, length, get_or, take, drop, set, sym, refl, ap, ◌∙◌, arith}
+use Rattle.std.proofs.Common.{◌≡◌, ℕ, zero, suc, ◌+◌, ◌*◌, ◌<◌, ◌≤◌, List, [], ◌∷◌, ◌++◌, length, get_or, take, drop, sym, refl, ap, ◌∙◌, arith}
 use lib.Seq.{sets, sets-eq}
 use Rattle.std.proofs.lemmas.List.{take_more, length-take-le}
 use Rattle.forms.specs.Bytes.{number}
@@ -25,9 +25,7 @@ puts_sets : (bs : List ℕ) (p q : ℕ) (ns : List ℕ) → 2 * p ≡ q → puts
 puts_sets bs p q [] e = refl
 puts_sets bs p q (n ∷ ns) e =
     let f : 2 * p + 1 ≡ suc q = omega arith in
-    puts_sets (put_at bs p n) (p + 1) (suc (suc q)) ns (omega arith)
-    ∙ ap (λ x. sets x (suc (suc q)) (bytes_of ns))
-    (ap (λ x. set (set bs x (n % 256)) (2 * p + 1) (n / 256)) e ∙ ap (λ x. set (set bs q (n % 256)) x (n / 256)) f)
+    cc (puts_sets (put_at bs p n) (p + 1) (suc (suc q)) ns (omega arith))
 
 -- numbers written from the first place on
 pub puts_front : (bs : List ℕ) (ns : List ℕ) (b : ℕ) → length (bytes_of ns) ≡ b → b ≤ length bs
@@ -42,5 +40,4 @@ number_bytes (n ∷ ns) zero = omega arith
 number_bytes (n ∷ ns) (suc p) =
     let e : 2 * suc p ≡ suc (suc (2 * p)) = omega arith in
     let f : 2 * suc p + 1 ≡ suc (suc (2 * p + 1)) = omega arith in
-    ap (λ x. get_or (bytes_of (n ∷ ns)) x 0 + 256 * get_or (bytes_of (n ∷ ns)) (2 * suc p + 1) 0) e
-    ∙ (ap (λ x. get_or (bytes_of ns) (2 * p) 0 + 256 * get_or (bytes_of (n ∷ ns)) x 0) f ∙ number_bytes ns p)
+    cc (number_bytes ns p)

@@ -1,6 +1,7 @@
 -- Runs, input by input.
-use Rattle.std.proofs.Common.{◌≡◌, ℕ, zero, suc, ◌+◌, ◌*◌, ◌≤◌, true, false, cond, ltb, List, [], ◌∷◌, length, sym, refl, ap, ◌∙◌, inl, inr, arith}
-use Rattle.std.proofs.lemmas.Bool.{cases_Bool, cond-true, cond-false, lt-ltb}
+use Rattle.std.proofs.Common.{◌≡◌, ℕ, zero, suc, ◌+◌, ◌*◌, ◌<◌, ◌≤◌, true, false, cond, ltb, List, [], ◌∷◌, length, sym, refl, ap, ◌∙◌, inl, inr, arith}
+use Rattle.std.specs.List.{filter, range_with_len}
+use Rattle.std.proofs.lemmas.Bool.{cases_Bool, cond-true, cond-false}
 use Rattle.std.proofs.lemmas.Bool.Decides.{nat_tests}
 use Rattle.machine.specs.declared.Cell.{Cell}
 use Rattle.machine.specs.declared.outputs.Command.{Command}
@@ -47,6 +48,16 @@ module _ (row : ℕ → Cell Command) (k : ℕ) where
         | inr h ↦ omega (arith, ap length (runs_on a i (suc l) l refl h), runs_le a (i + 1) l)
       ]
 
+  -- one for each input at which a run ends
+  pub runs_count : (a i l : ℕ) → length (filter (ends_run row k) (range_with_len i l)) ≡ length (runs row k a i l)
+  runs_count a i zero = refl
+  runs_count a i (suc l) =
+      elim (cases_Bool (ends_run row k i)) [
+        | inl h ↦ ap length (cond-true _ _ _ h)
+            ∙ (ap suc (runs_count (i + 1) (i + 1) l) ∙ sym (ap length (runs_end a i (suc l) l refl h)))
+        | inr h ↦ ap length (cond-false _ _ _ h) ∙ (runs_count a (i + 1) l ∙ sym (ap length (runs_on a i (suc l) l refl h)))
+      ]
+
   -- one at least, since a run ends at the last input
   pub runs_some : (a i l r : ℕ) → i + suc l ≡ k → link_to r (runs row k a i (suc l)) ≡ r
   runs_some a i zero r e =
@@ -60,8 +71,8 @@ module _ (row : ℕ → Cell Command) (k : ℕ) where
 
   -- the link of a record, as its last input tells it
   pub link_is : (a i l r : ℕ) → i + l ≡ k → link_to r (runs row k a i l) ≡ cond (ltb i k) r 0
-  link_is a i zero r e = let h : ltb i k ≡ false = grind (arith, nat_tests) in sym (cond-false _ _ _ h)
-  link_is a i (suc l) r e = runs_some a i l r e ∙ sym (cond-true _ _ _ (lt-ltb i k (omega arith)))
+  link_is a i zero r e = grind (arith, nat_tests)
+  link_is a i (suc l) r e = let some = runs_some a i l r e in grind (arith, nat_tests)
 
 -- Where the writing of a state's records stands: the run from a has come to i, l inputs follow, and r is the next record.
 -- bz is the buffer as it was, and bs as it is.
@@ -77,6 +88,10 @@ stands_as row k n first bz bs bt a b i l r t x y z st = rw (x, y, z) st
 
 module _ (row : ℕ → Cell Command) (k n first : ℕ) (bz bs : List ℕ) (a i l m r : ℕ)
     (e : l ≡ suc m) (st : Standing row k n first bz bs a i l r) where
+  -- the next record is still among those that were counted
+  pub stands_below : ends_run row k i ≡ true → r < first + length (row_runs row k)
+  stands_below h = omega (arith, st.counted, count_end row k a i l m e h)
+
   pub stands_on : ends_run row k i ≡ false → Standing row k n first bz bs a (i + 1) m r
   stands_on h =
       let f = runs_on row k a i l m e h in
@@ -99,15 +114,11 @@ module _ (row : ℕ → Cell Command) (k n first : ℕ) (bz bs : List ℕ) (a i 
       let rest = runs row k (i + 1) (i + 1) m in
       let here : List ℕ = a ∷ i ∷ (row a).next ∷ (row a).output.number ∷ link_to (r + 1) rest ∷ [] in
       let y' : z ≡ link_to (r + 1) rest = y ∙ sym (link_is row k (i + 1) (i + 1) m (r + 1) (omega arith)) in
-      let w' : bt ≡ puts bs (place_of n r) here =
-      w ∙ (ap (λ u. puts bs u (a ∷ i ∷ c.next ∷ c.output.number ∷ z ∷ [])) q
-      ∙ (ap (λ (u : Cell Command). puts bs (place_of n r) (a ∷ i ∷ u.next ∷ u.output.number ∷ z ∷ [])) d
-      ∙ ap (λ u. puts bs (place_of n r) (a ∷ i ∷ (row a).next ∷ (row a).output.number ∷ u ∷ [])) y')) in
       record {
         begun = omega arith;
         risen = omega (arith, st.risen);
         counted = omega (arith, st.counted);
-        left = ap (λ u. puts u (place_of n (r + 1)) (records row (r + 1) rest)) w'
-            ∙ (puts_append bs (place_of n r) (place_of n (r + 1)) here (records row (r + 1) rest) (omega (arith, st.risen))
-            ∙ (sym (ap (λ u. puts bs (place_of n r) (records row r u)) f) ∙ st.left));
+        left =
+            let behind = puts_append bs (place_of n r) (place_of n (r + 1)) here (records row (r + 1) rest) (omega (arith, st.risen)) in
+            cc (behind, f, y', st.left);
       }

@@ -1,6 +1,6 @@
 -- The runs of a row are its longest runs.
 use Rattle.std.proofs.Common.{◌≡◌, ℕ, zero, suc, ◌+◌, ◌<◌, ◌≤◌, true, false, eqb, List, [], ◌∷◌, sym, refl, ap, ◌∙◌, subst, inl, inr, arith}
-use Rattle.std.proofs.lemmas.Bool.{cases_Bool, cases_lt, and_from, and_parts, both_ways, eq-eqb, eqb-true}
+use Rattle.std.proofs.lemmas.Bool.{cases_Bool, cases_lt, and_parts, both_ways, eqb-true}
 use Rattle.std.proofs.lemmas.Bool.Decides.{nat_tests}
 use Rattle.machine.specs.declared.Cell.{Cell}
 use Rattle.machine.specs.declared.outputs.Command.{Command}
@@ -27,9 +27,7 @@ cells_equal a b h =
     ap (λ x. make x a.output.number) p ∙ ap (λ y. make b.next y) q
 
 equal_same : (a b : Cell Command) → a ≡ b → equal_cells a b ≡ true
-equal_same a b e =
-    and_from (eqb a.next b.next) (eqb a.output.number b.output.number)
-    (eq-eqb _ _ (ap (λ x. x.next) e)) (eq-eqb _ _ (ap (λ x. x.output.number) e))
+equal_same a b e = grind (arith, nat_tests)
 
 -- what the test for the end of a run tells
 not_ended : (row : ℕ → Cell Command) (k i : ℕ) → ends_run row k i ≡ false → equal_cells (row i) (row (i + 1)) ≡ true

@@ -1,7 +1,7 @@
 -- The round trip: a written chain, read again.
-use Rattle.std.proofs.Common.{◌≡◌, ℕ, zero, suc, ◌+◌, ◌-◌, ◌*◌, ◌<◌, ◌≤◌, true, false, not, ◌&&◌, ◌||◌, eqb, ltb, leb, List, [], ◌∷◌, ◌++◌, length, get_or, drop, is_ok, Ok, Err, Result, sym, refl, ap, ◌∙◌, subst, inl, inr, arith}
+use Rattle.std.proofs.Common.{◌≡◌, ℕ, zero, suc, ◌+◌, ◌-◌, ◌*◌, ◌<◌, ◌≤◌, true, List, [], ◌∷◌, ◌++◌, length, get_or, drop, is_ok, Ok, Err, Result, sym, refl, ap, ◌∙◌, subst, inl, inr, arith}
 use Rattle.std.proofs.lemmas.List.{drop-drop, drop_at, get_or-drop, get_or_append_left}
-use Rattle.std.proofs.lemmas.Bool.{cases_lt, cond-true, cond-false, and_from, and_right, le-leb, lt-leb, lt-ltb}
+use Rattle.std.proofs.lemmas.Bool.{cases_lt}
 use Rattle.std.proofs.lemmas.Bool.Decides.{nat_tests}
 use Rattle.std.specs.Result.{result_and}
 use Rattle.machine.specs.Meaning.{Meaning, Sound, Inside, Closed}
@@ -12,7 +12,6 @@ use Rattle.forms.specs.Bounds.{after_test, in_bounds}
 use Rattle.forms.specs.Bytes.{number, states, inputs, start, count}
 use Rattle.forms.specs.Chains.{Trail, Read, Ended, trail, walk, record_at, given, chain_entry, chain_meaning, chain_opening}
 use Rattle.forms.specs.Entries.{bounds_test}
-use Rattle.forms.specs.Openings.{size_test}
 use Rattle.writing.specs.Bytes.{bytes_of}
 use Rattle.writing.specs.Longest.{SameCell, Apart, LongestFrom, LongestRuns}
 use Rattle.writing.specs.Runs.{filled, row_of, runs}
@@ -66,7 +65,7 @@ module _ (bs : List ℕ) (row : ℕ → Cell Command) where
   -- a 0 ends a walk
   ends : (more p : ℕ) → trail more bs p 0 ≡ Ended
   ends zero p = refl
-  ends (suc more) p = let h : (ltb p 0 && leb 0 (count bs)) ≡ false = grind (arith, nat_tests) in cond-false _ _ _ h
+  ends (suc more) p = grind (arith, nat_tests)
 
   -- the walk along the records of the runs
   walked : (more p r : ℕ) (xs : List Run) → length xs ≤ more → p < r → r + length xs ≤ count bs + 1 → Holds bs row r xs
@@ -74,9 +73,9 @@ module _ (bs : List ℕ) (row : ℕ → Cell Command) where
   walked more p r [] l h c held = ends more p
   walked zero p r (x ∷ xs) l h c held = absurd (omega arith)
   walked (suc more) p r (x ∷ xs) l h c held =
-      cond-true _ _ _ (and_from (ltb p r) (leb r (count bs)) (lt-ltb p r h) (le-leb r (count bs) (omega arith)))
-      ∙ ap (Read r) (ap (trail more bs r) held.0.link
-      ∙ walked more r (r + 1) xs (omega arith) (omega arith) (omega arith) held.1)
+      let f = held.0 in
+      let more = walked more r (r + 1) xs (omega arith) (omega arith) (omega arith) held.1 in
+      grind (arith, nat_tests)
 
   -- the walk gives the cell of each input
   gives : (k s i p r a : ℕ) (xs : List Run) → Tiled row k a xs → Holds bs row r xs → ((x : ℕ) → x < k → (row x).next < states bs)
@@ -84,20 +83,12 @@ module _ (bs : List ℕ) (row : ℕ → Cell Command) where
   gives k s i p r a [] tiles held below l h = absurd (omega arith)
   gives k s i p r a (x ∷ xs) tiles held below l h =
       let f = held.0 in
-      let e0 = f.first in
-      let e1 = f.last in
-      let e2 = f.next in
-      let from_is = tiles.0 in
-      let make : ℕ → ℕ → Result (Cell Command) StoredFault = λ u v. Ok (record { next = u; output = record { number = v } }) in
       elim (cases_lt x.to i) [
-        | inl b ↦ cond-false _ _ _ (and_right (leb (record_at bs r).from i) (leb i (record_at bs r).to) (lt-leb _ _ (omega arith)))
-            ∙ gives k s i r (r + 1) (x.to + 1) xs tiles.5 held.1 below (omega arith) h
+        | inl b ↦ let more = gives k s i r (r + 1) (x.to + 1) xs tiles.5 held.1 below (omega arith) h in grind (arith, nat_tests)
         | inr b ↦ let n = below x.from (omega arith) in
-            cond-true _ _ _
-            (and_from (leb (record_at bs r).from i) (leb i (record_at bs r).to) (le-leb _ _ (omega arith)) (le-leb _ _ (omega arith)))
-            ∙ (cond-false _ _ _ (lt-leb (states bs) (record_at bs r).next (omega arith))
-            ∙ (ap (λ u. make u (record_at bs r).output) e2 ∙ (ap (λ v. make (row x.from).next v) f.output
-            ∙ ap Ok (ap row from_is ∙ sym (tiles.3 i l b)))))
+            let same = tiles.3 i l b in
+            let first = ap row tiles.0 in
+            grind (arith, nat_tests)
       ]
 
   -- two records with equal numbers have equal cells
@@ -105,8 +96,9 @@ module _ (bs : List ℕ) (row : ℕ → Cell Command) where
       → Fields bs (r + 1) u v (row b).next (row b).output.number w → SameCell bs r (r + 1) → row b ≡ row a
   same_cells r a b p q t u v w f g same =
       let make : ℕ → ℕ → Cell Command = λ x y. record { next = x; output = record { number = y } } in
-      ap (λ x. make x (row b).output.number) (sym g.next ∙ (sym same.0 ∙ f.next))
-      ∙ ap (make (row a).next) (sym g.output ∙ (sym same.1 ∙ f.output))
+      let next : (row b).next ≡ (row a).next = cc in
+      let output : (row b).output.number ≡ (row a).output.number = cc in
+      ap (λ x. make x (row b).output.number) next ∙ ap (make (row a).next) output
 
   apart : (k r : ℕ) (x : Run) (xs : List Run) → (x.to + 1 < k → row (x.to + 1) ≡ row x.from → ⊥) → Tiled row k (x.to + 1) xs
       → Holds bs row r (x ∷ xs) → Apart bs r (trail_of (r + 1) xs)
@@ -138,16 +130,13 @@ bounds_from : (n k s i : ℕ) (next : Result (Cell Command) StoredFault) (c : Ce
     → (s < n) × (i < k)
 bounds_from n k s i next c h = (grind (arith, nat_tests), grind (arith, nat_tests))
 
+-- so a chain has cells only below its counts
+pub chain_inside : (bs : List ℕ) → Inside (chain_meaning bs)
+chain_inside bs s i c e = bounds_from (states bs) (inputs bs) s i _ c e
+
 opens : (bs : List ℕ) → 1 ≤ states bs → states bs ≤ 128 → 1 ≤ inputs bs → inputs bs ≤ 32 → start bs < states bs → count bs ≤ 4096
     → length bs ≡ 2 * (4 + states bs + 5 * count bs) → chain_opening bs ≡ Ok (chain_meaning bs)
-opens bs a b c d e f g =
-    let size : (eqb (states bs) 0 || (ltb 128 (states bs) || (eqb (inputs bs) 0 || ltb 32 (inputs bs)))) ≡ false = grind (arith, nat_tests) in
-    let long : ltb (length bs) 8 ≡ false = grind (arith, nat_tests) in
-    let few : ltb 4096 (count bs) ≡ false = grind (arith, nat_tests) in
-    let whole : not (eqb (length bs) (2 * (4 + states bs + 5 * count bs))) ≡ false = grind (arith, nat_tests) in
-    let sizes : size_test (states bs) (inputs bs) (start bs) ≡ Ok tt =
-    cond-false _ _ _ size ∙ cond-false _ _ _ (lt-leb (states bs) (start bs) e) in
-    cond-false _ _ _ long ∙ (after_test _ tt _ (sym sizes) ∙ (cond-false _ _ _ few ∙ cond-false _ _ _ whole))
+opens bs a b c d e f g = grind (arith, nat_tests)
 
 module _ {F : Type 0} (m : Meaning Command F) (sound : Sound m) where
   -- the records of state s
@@ -161,9 +150,10 @@ module _ {F : Type 0} (m : Meaning Command F) (sound : Sound m) where
       let sn : states (written m) ≡ n = number_bytes ns 0 in
       let so = rows_part m s n h in
       let q : place_of (states (written m)) (t + 1) ≡ suc (suc (suc (suc (n + 5 * t)))) = omega arith in
+      let rest = records (row_of m s) (t + 1) (state_runs m s) ++ so.0 in
+      let behind = drop_at (rows m s) rest (5 * t) (length_rows m s) in
       holds ns (row_of m s) (t + 1) (state_runs m s) so.0 (omega arith)
-      (ap (λ x. drop x ns) q ∙ (sym (drop-drop (5 * t) n (hs ++ rs)) ∙ (ap (drop (5 * t)) (drop_at hs rs n (length_heads m n))
-      ∙ (ap (drop (5 * t)) so.1 ∙ drop_at (rows m s) _ (5 * t) (length_rows m s)))))
+      (cc (q, drop-drop (5 * t) n (hs ++ rs), drop_at hs rs n (length_heads m n), so.1, behind))
 
   -- the walk of state s
   walk_is : (s : ℕ) → s < m.states → walk (written m) s ≡ trail_of (records_before m s + 1) (state_runs m s)
@@ -211,12 +201,12 @@ module _ {F : Type 0} (m : Meaning Command F) (sound : Sound m) where
   below_states : {G : Type 0} (r : Result (Cell Command) G) (n : ℕ) → ((c : Cell Command) → r ≡ Ok c → c.next < n)
       → is_ok r ≡ true → (filled r).next < n
   below_states (Ok c) n h e = h c refl
-  below_states (Err x) n h e = let z : ◌≡◌ {A = ℕ} 0 1 = cc in absurd (omega arith)
+  below_states (Err x) n h e = absurd cc
 
   -- an answer with a cell
   filled_is : {G : Type 0} (r : Result (Cell Command) G) → is_ok r ≡ true → r ≡ Ok (filled r)
   filled_is (Ok c) e = refl
-  filled_is (Err x) e = let z : ◌≡◌ {A = ℕ} 0 1 = cc in absurd (omega arith)
+  filled_is (Err x) e = cc
 
   -- each cell is read again
   reads : Closed m → (s i : ℕ) → s < m.states → i < m.inputs → chain_entry (written m) s i ≡ Ok (row_of m s i)

@@ -1,14 +1,13 @@
 -- Runs: inputs of a state that follow one another and have equal cells.
---   row_of, cells_in    a state's cells, of a machine and as kept
+--   row_of              a state's cells
 --   equal_cells         whether two cells are equal
 --   ends_run            where a longest run ends
---   row_runs, runs_in   the longest runs of a row
+--   row_runs            the longest runs of a row
 --   Covering, Fewest    that no other runs with equal cells are fewer
-use Rattle.std.specs.Prelude.{◌≡◌, ℕ, zero, suc, ◌+◌, ◌<◌, ◌≤◌, Bool, cond, not, ◌&&◌, ◌||◌, List, [], ◌∷◌, length, Ok, Err, Result, ◌==◌, slice_index_or}
+use Rattle.std.specs.Prelude.{◌≡◌, ℕ, zero, suc, ◌+◌, ◌<◌, ◌≤◌, Bool, cond, not, ◌&&◌, ◌||◌, List, [], ◌∷◌, length, Ok, Err, Result, ◌==◌}
 use Rattle.machine.specs.Meaning.{Meaning}
 use Rattle.machine.specs.declared.Cell.{Cell}
 use Rattle.machine.specs.declared.outputs.Command.{Command}
-use Rattle.writing.specs.declared.rows.Row.{Row}
 use Rattle.writing.specs.declared.rows.Run.{Run}
 
 -- what stands where there is no cell
@@ -23,9 +22,6 @@ filled (Err e) = no_cell
 -- the cells of state s
 abbrev pub row_of : {F : Type 0} → Meaning Command F → ℕ → ℕ → Cell Command
 row_of m s i = filled (m.entry s i)
-
-abbrev pub cells_in : Row → ℕ → Cell Command
-cells_in row i = slice_index_or row.cells i no_cell
 
 abbrev pub equal_cells : Cell Command → Cell Command → Bool
 equal_cells a b = a.next == b.next && a.output.number == b.output.number
@@ -45,10 +41,6 @@ runs row k from i (suc more) =
 
 abbrev pub row_runs : (ℕ → Cell Command) → ℕ → List Run
 row_runs row k = runs row k 0 0 k
-
--- the longest runs of a row as it is kept
-abbrev pub runs_in : Row → List Run
-runs_in row = row_runs (cells_in row) row.inputs
 
 -- runs, longest or not, that have equal cells and follow one another over the inputs from a to k - 1
 abbrev pub Covering : (ℕ → Cell Command) → ℕ → ℕ → List Run → Type 0

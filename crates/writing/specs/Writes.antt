@@ -2,18 +2,16 @@
 --   write_number           the number of a refusal
 --   Answered, after        the answer, and the buffer after it
 --   SameMachine, Reopens   the round trip
---   Planned                what is known before a number is written
-use Rattle.std.specs.Prelude.{◌≡◌, ℕ, ◌<◌, ◌≤◌, List, ◌++◌, take, drop, Ok, Err, Result}
+use Rattle.std.specs.Prelude.{◌≡◌, ℕ, ◌<◌, ◌≤◌, List, ◌++◌, drop, Ok, Err, Result}
 use Rattle.machine.specs.Checks.{Checked, check_number}
 use Rattle.machine.specs.Meaning.{Meaning, Sound}
 use Rattle.machine.specs.declared.Cell.{Cell}
 use Rattle.machine.specs.declared.faults.StoredFault.{StoredFault}
 use Rattle.machine.specs.declared.outputs.Command.{Command}
 use Rattle.forms.specs.Chains.{chain_opening}
-use Rattle.writing.specs.declared.plans.Plan.{Plan}
 use Rattle.writing.specs.declared.writes.WriteRefusal.{WriteRefusal}
 use Rattle.writing.specs.declared.writes.WriteRefusal.TheVariants as refusal
-use Rattle.writing.specs.Written.{all_records, all_heads, bytes_needed}
+use Rattle.writing.specs.Written.{bytes_needed}
 
 -- the number of a refusal: a check's own, or 8
 abbrev pub write_number : {F : Type 0} → WriteRefusal F → ℕ
@@ -43,8 +41,3 @@ module _ {F : Type 0} (m : Meaning Command F) where
   -- the bytes open as a chain, and that is the same machine
   abbrev pub Reopens : List ℕ → Type 0
   Reopens bs = (t : Meaning Command StoredFault) × (chain_opening bs ≡ Ok t) × SameMachine m t
-
-  -- the plan has the heads, and the count of all records
-  pub record Planned (p : Plan) : Type 0 where
-    pub heads_are : take m.states p.heads ≡ all_heads m
-    pub count : p.records ≡ all_records m

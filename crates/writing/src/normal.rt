@@ -7,9 +7,9 @@ ghost use Rattle.writing.specs.Longest.{LongestRuns};
 ghost use Rattle.writing.specs.Normal.{Rewritten, Normalised, SameChain, OneForm};
 ghost use Rattle.writing.specs.declared.normal.NormalRefusal.TheVariants.{Unopened, Unsound, NoMemory};
 
-use crate::plans::{Plan, chain_length, put_chain};
+use crate::plans::Plan;
 use forms::{Chain, OpenRefusal};
-use machine::{CheckRefusal, Machine, StoredFault, check};
+use machine::{CheckRefusal, StoredFault, check};
 use std::alloc::{AllocError, Global};
 
 #[derive(Clone, Copy, PartialEq, Eq, Debug)]
@@ -61,9 +61,8 @@ fn rewritten(heap: Global, chain: &Chain) -> Result<Vec<u8>, NormalRefusal>
 {
     check(chain)?;
     let plan = Plan::of(chain);
-    let length = chain_length(chain.states(), plan.records);
-    let mut out = zeros(heap, length)?;
-    put_chain(chain, &plan, &mut out);
+    let mut out = zeros(heap, plan.length())?;
+    plan.put(&mut out);
     Ok(out)
 }
 

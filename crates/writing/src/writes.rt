@@ -6,7 +6,7 @@ ghost use Rattle.writing.specs.Writes.{write_number, Answered, after, Reopens};
 ghost use Rattle.writing.specs.Written.{written};
 ghost use Rattle.writing.specs.declared.writes.WriteRefusal.TheVariants.{Unsound};
 
-use crate::plans::{Plan, chain_length, put_chain};
+use crate::plans::Plan;
 use machine::{CheckRefusal, Command, Machine, check};
 
 #[derive(Clone, Copy, PartialEq, Eq, Debug, Drop)]
@@ -49,11 +49,11 @@ pub fn write_chain<M: Machine<Out = Command>>(
 {
     check(machine)?;
     let plan = Plan::of(machine);
-    let needed = chain_length(machine.states(), plan.records);
+    let needed = plan.length();
     if out.len() < needed {
         return Err(WriteRefusal::Short { needed });
     }
-    put_chain(machine, &plan, out);
+    plan.put(out);
     Ok(needed)
 }
 

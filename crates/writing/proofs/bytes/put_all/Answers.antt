@@ -1,6 +1,3 @@
-use Rattle.std.proofs.Common.{ap, ◌∙◌, arith}
-use Rattle.std.proofs.lemmas.List.{take_all}
-use Rattle.writing.specs.Bytes.{puts}
 use Rattle.writing.proofs.Puts.{puts_more}
 use Rattle.writing.proofs.bytes.put_all.Goals as goal
 
@@ -8,6 +5,3 @@ pub loop-i-preserved : goal.loop-i-preserved
 loop-i-preserved c =
     let e = puts_more c.args.out.now c.args.place c.loop-i.i c.args.numbers.now c.loop-i-test.true in
     cc
-
-pub returns : goal.returns
-returns c = c.loop-i.invariant ∙ ap (puts c.args.out.now c.args.place) (take_all c.loop-i.i c.args.numbers.now (omega arith))

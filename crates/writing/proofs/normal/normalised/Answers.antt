@@ -1,11 +1,8 @@
-use Rattle.std.proofs.Common.{IfOk, Ok, Err, vec_items, Result, sym, subst}
+use Rattle.std.proofs.Common.{vec_items, sym, subst}
+use Rattle.std.proofs.lemmas.Result.{IfOk-weaker}
 use Rattle.forms.specs.Forms.{chain_of}
 use Rattle.writing.specs.Normal.{Normalised}
 use Rattle.writing.proofs.normal.normalised.Goals as goal
-
-made_so : {X Y : Type 0} (r : Result X Y) (P Q : X → Type 0) → ((x : X) → P x → Q x) → IfOk r P → IfOk r Q
-made_so (Ok x) P Q f p = f x p
-made_so (Err y) P Q f p = tt
 
 pub returns : goal.returns
 returns c =
@@ -14,6 +11,6 @@ returns c =
     let r = c.rewritten.result in
     record {
       answer = subst (λ o. Normalised vec_items o r) e c.rewritten.ensures.answer;
-      again = made_so r _ _ (λ v h. (m, sym e, h)) c.rewritten.ensures.again;
+      again = IfOk-weaker r _ _ (λ v h. (m, sym e, h)) c.rewritten.ensures.again;
       runs = c.rewritten.ensures.runs;
     }

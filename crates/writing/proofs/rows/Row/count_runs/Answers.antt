@@ -1,22 +1,16 @@
-use Rattle.std.proofs.Common.{◌≡◌, suc, ◌+◌, ◌-◌, ◌<◌, sym, arith, rules}
-use Rattle.writing.specs.Runs.{cells_in}
-use Rattle.writing.proofs.RunSteps.{runs_le, count_on, count_end}
+use Rattle.std.proofs.Common.{◌∙◌, arith, rules}
+use Rattle.std.proofs.lemmas.Iterator.{YieldsList-from_range}
+use Rattle.std.proofs.lemmas.Iterator.Consumers.{YieldsList-from_filter, count_from_yields_List}
+use Rattle.writing.specs.Runs.{ends_run}
+use Rattle.writing.specs.Rows.{cells_in}
+use Rattle.writing.proofs.RunSteps.{runs_count}
 use Rattle.writing.proofs.rows.Row.count_runs.Goals as goal
-use Rattle.writing.proofs.rows.Row.count_runs.Goals.{then-ends_run, else-ends_run}
 
-pub overflow_add-count : goal.overflow_add-count
-overflow_add-count c =
-    let k = c.args.self.now.inputs in
-    let h : c.loop-i.count + 1 < 65536 = omega (arith, runs_le (cells_in c.args.self.now) k 0 0 k) in
-    search rules
-
-pub loop-i-preserved : goal.loop-i-preserved
-loop-i-preserved c =
+pub returns : goal.returns
+returns c =
     let row = cells_in c.args.self.now in
     let k = c.args.self.now.inputs in
-    let i = c.loop-i.i in
-    let e : k - i ≡ suc (k - (i + 1)) = omega arith in
-    elim c.if-ends_run.branch [
-      | then-ends_run w ↦ omega (arith, w.count-is, count_end row k 0 i _ _ e (sym w.if-ends_run.ensures))
-      | else-ends_run w ↦ omega (arith, w.count-is, count_on row k 0 i _ _ e (sym w.if-ends_run.ensures))
-    ]
+    count_from_yields_List c.filter.result _ c.count.ensures.ran
+    (YieldsList-from_filter _ (ends_run row k) (YieldsList-from_range 0 k k c.filter.ensures.source (omega arith))
+    c.filter.ensures.closure (λ x b q h. search rules))
+    ∙ runs_count row k 0 0 k

@@ -1,24 +1,24 @@
 use Rattle.std.proofs.Common.{◌≡◌, suc, ◌+◌, ◌-◌, sym, refl, arith}
-use Rattle.writing.specs.Runs.{cells_in}
-use Rattle.writing.proofs.RunSteps.{count_end, stands_as, stands_on, stands_end}
+use Rattle.writing.specs.Rows.{cells_in}
+use Rattle.writing.proofs.RunSteps.{stands_below, stands_as, stands_on, stands_end}
 use Rattle.writing.proofs.rows.Row.put.Goals as goal
 use Rattle.writing.proofs.rows.Row.put.Goals.{then-ends_run, else-ends_run}
 
-pub link-link-requires : goal.link-link-requires
-link-link-requires c =
+pub link-requires-clause-few : goal.link-requires-clause-few
+link-requires-clause-few c =
     let k = c.args.self.now.inputs in
     let i = c.loop-to.to in
-    let e : k - i ≡ suc (k - (i + 1)) = omega arith in
-    let f = count_end (cells_in c.args.self.now) k c.loop-to.from i _ _ e (sym c.if-ends_run.ensures) in
-    record { below = c.loop-to-test.true; few = omega (arith, c.loop-to.invariant.counted, c.requires.counted) }
+    let below = stands_below (cells_in c.args.self.now) k _ _ _ _ _ i (k - i) (k - (i + 1)) _ (omega arith) c.loop-to.invariant
+    (sym c.if-ends_run.ensures) in
+    omega (arith, below, c.requires.counted)
 
-pub put_record-requires : goal.put_record-requires
-put_record-requires c =
+pub put-requires : goal.put-requires
+put-requires c =
     let k = c.args.self.now.inputs in
     let i = c.loop-to.to in
-    let e : k - i ≡ suc (k - (i + 1)) = omega arith in
-    let f = count_end (cells_in c.args.self.now) k c.loop-to.from i _ _ e (sym c.if-ends_run.ensures) in
-    omega (arith, c.loop-to.invariant.counted, c.loop-to.invariant.risen, c.requires.room)
+    let below = stands_below (cells_in c.args.self.now) k _ _ _ _ _ i (k - i) (k - (i + 1)) _ (omega arith) c.loop-to.invariant
+    (sym c.if-ends_run.ensures) in
+    omega (arith, below, c.loop-to.invariant.risen, c.requires.room)
 
 pub loop-to-preserved : goal.loop-to-preserved
 loop-to-preserved c =
@@ -29,9 +29,9 @@ loop-to-preserved c =
     elim c.if-ends_run.branch [
       | then-ends_run w ↦ stands_as row k _ _ _ _ _ _ _ _ _ _ _ w.out-is w.from-is w.number-is
           (stands_end row k c.args.states c.args.first c.args.out.now c.loop-to.out c.loop-to.from i (k - i) (k - (i + 1))
-          c.loop-to.number e c.loop-to.invariant w.put_record.new.out w.record_place-place.result w.link-link.result
-          (row c.loop-to.from) (sym w.if-ends_run.ensures) c.requires.some (omega arith) refl w.record_place-place.ensures
-          w.link-link.ensures w.put_record.ensures)
+          c.loop-to.number e c.loop-to.invariant w.put.new.out w.record_place.result w.link.result
+          (row c.loop-to.from) (sym w.if-ends_run.ensures) c.requires.some (omega arith) refl w.record_place.ensures
+          w.link.ensures w.put.ensures)
       | else-ends_run w ↦ stands_as row k _ _ _ _ _ _ _ _ _ _ _ w.out-is w.from-is w.number-is
           (stands_on row k c.args.states c.args.first c.args.out.now c.loop-to.out c.loop-to.from i (k - i) (k - (i + 1))
           c.loop-to.number e c.loop-to.invariant (sym w.if-ends_run.ensures))

@@ -1,5 +1,5 @@
 use Rattle.std.proofs.Common.{◌-◌}
-use Rattle.writing.specs.Runs.{cells_in}
+use Rattle.writing.specs.Rows.{cells_in}
 use Rattle.writing.proofs.RunSteps.{Standing}
 use Rattle.writing.proofs.rows.Row.put.Given as goal
 
