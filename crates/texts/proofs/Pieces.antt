@@ -1,8 +1,9 @@
 -- A text, or any list, made piece by piece.
-use Rattle.std.proofs.Common.{◌≡◌, ℕ, suc, ◌+◌, ◌-◌, ◌<◌, ◌≤◌, List, [], ◌∷◌, ◌++◌, length, get_or, drop, codes, decimal, refl, append_assoc, append-nil, add-one, arith, drop-cons}
+use Rattle.std.proofs.Common.{◌≡◌, ℕ, suc, ◌+◌, ◌-◌, ◌<◌, ◌≤◌, List, [], ◌∷◌, ◌++◌, length, get_or, drop, codes, decimal, map, Some, sym, refl, ap, ◌∙◌, append_assoc, append-nil, add-one, arith, drop-cons}
 use lib.Seq.{drop-length}
+use Rattle.std.proofs.lemmas.List.Folds.{flat_map-map}
 use Rattle.std.specs.List.{range_with_len}
-use Rattle.texts.specs.Each.{each}
+use Rattle.texts.specs.Each.{each, AddsPrinted}
 use Rattle.texts.specs.Numbers.{spaced, numbers_text}
 
 module _ {A B : Type 0} (f : A → List B) where
@@ -41,6 +42,12 @@ pub numbers_each : (ns : List ℕ) → numbers_text ns ≡ each spaced ns
 numbers_each [] = refl
 numbers_each (n ∷ ns) = rw (append_assoc, numbers_each ns) refl
 
--- all items left, as a loop begins
-pub each_start : {B : Type 0} (f : ℕ → List B) (old : List B) (a n : ℕ) → old ++ each f (range_with_len (a + 0) (n - 0)) ≡ old ++ each f (range_with_len a n)
-each_start f old a n = let none : a + 0 ≡ a = omega arith in let all : n - 0 ≡ n = omega arith in rw (none, all)
+-- added as numbers print
+pub numbers_printed : (old new ns : List ℕ) → AddsPrinted (λ n. Some (decimal n)) ns old new → new ≡ old ++ numbers_text ns
+numbers_printed old new ns adds = adds (λ _. refl) ∙ ap (λ (t : List ℕ). old ++ t) (sym (numbers_each ns))
+
+-- added as items print that show a number each
+pub items_printed : {A : Type 0} (number : A → ℕ) (old new : List ℕ) (xs : List A) → AddsPrinted (λ x. Some (decimal (number x))) xs old new
+    → new ≡ old ++ numbers_text (map number xs)
+items_printed number old new xs adds =
+    adds (λ _. refl) ∙ ap (λ (t : List ℕ). old ++ t) (sym (numbers_each (map number xs) ∙ flat_map-map spaced number xs))

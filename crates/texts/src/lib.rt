@@ -1,17 +1,18 @@
 //! Pieces of the lines that programs print.
 #![tactic(auto)]
 
-ghost use Rattle.std.specs.Prelude.{◌≡◌, ◌++◌, string_bytes, OnOk};
-ghost use Rattle.texts.specs.Numbers.{numbers_text};
+ghost use Rattle.std.specs.Prelude.{string_bytes, OnOk};
+ghost use Rattle.texts.specs.Each.{AddsPrinted};
 
 use std::alloc::AllocError;
+use std::fmt;
 
-/// Adds numbers to a text, each after a space.
-pub fn push_numbers(text: &mut String, numbers: &[u16]) -> Result<(), AllocError>
-    ensures { OnOk result (string_bytes text.new ≡ string_bytes text.old ++ numbers_text numbers.now) }
+/// Adds to a text what each item prints, after a space.
+pub fn push_each<T: fmt::Display>(text: &mut String, items: &[T]) -> Result<(), AllocError>
+    ensures { OnOk result (AddsPrinted T.output items.now (string_bytes text.old) (string_bytes text.new)) }
 {
-    for n in numbers {
-        write!(text, " {n}")?;
+    for item in items {
+        write!(text, " {item}")?;
     }
     Ok(())
 }
