@@ -1,6 +1,9 @@
 //! What a sheet answers, and why it refuses.
-ghost use Rattle.std.specs.Prelude.{◌≡◌};
+ghost use Rattle.std.specs.Prelude.{◌≡◌, Some};
 ghost use Rattle.sheet.specs.Refusals.{refusal_number, refusal_value};
+ghost use Rattle.sheet.specs.Texts.{pair_text, refusal_text, round_text, settling_text, table_text};
+
+use std::fmt;
 
 /// A round took a finer partition, or found that there is none; with the count of blocks then.
 #[derive(Clone, Copy, PartialEq, Eq, Debug)]
@@ -87,6 +90,59 @@ impl Refusal {
             Refusal::NoSuchState => None,
             Refusal::NotApart => None,
             Refusal::Unsettled => None,
+        }
+    }
+}
+
+impl fmt::Display for Round {
+    ghost output = { λ r. Some (round_text r) };
+
+    fn fmt<W: fmt::Write>(&self, f: &mut fmt::Formatter<W>) -> fmt::Result {
+        match self {
+            Round::Split { count } => write!(f, "split {count}"),
+            Round::Settled { count } => write!(f, "settled {count}"),
+        }
+    }
+}
+
+impl fmt::Display for Settling {
+    ghost output = { λ s. Some (settling_text s) };
+
+    fn fmt<W: fmt::Write>(&self, f: &mut fmt::Formatter<W>) -> fmt::Result {
+        let Settling { rounds, count } = *self;
+        write!(f, "rounds {rounds} count {count}")
+    }
+}
+
+impl fmt::Display for Pair {
+    ghost output = { λ p. Some (pair_text p) };
+
+    fn fmt<W: fmt::Write>(&self, f: &mut fmt::Formatter<W>) -> fmt::Result {
+        match self {
+            Pair::Apart(j) => write!(f, "apart {j}"),
+            Pair::Together => write!(f, "together"),
+            Pair::Equivalent => write!(f, "equivalent"),
+        }
+    }
+}
+
+impl fmt::Display for Table {
+    ghost output = { λ t. Some (table_text t) };
+
+    fn fmt<W: fmt::Write>(&self, f: &mut fmt::Formatter<W>) -> fmt::Result {
+        let Table { classes, start } = *self;
+        write!(f, "classes {classes} start {start}")
+    }
+}
+
+impl fmt::Display for Refusal {
+    ghost output = { λ e. Some (refusal_text e) };
+
+    fn fmt<W: fmt::Write>(&self, f: &mut fmt::Formatter<W>) -> fmt::Result {
+        let number = self.number();
+        match self.value() {
+            Some(value) => write!(f, "refused {number} {value}"),
+            None => write!(f, "refused {number}"),
         }
     }
 }
