@@ -1,58 +1,13 @@
 -- A log as text, a line for each call.
---   call_text, refusal_text               a call, and a refusal with its number and value
---   round_text, pair_text, answer_text    what a call was answered
---   kept_text, table_text, buffers_text   the buffers that such a call may write, as it left them
+--   kept_text, table_text, buffers_text   the buffers that a call may write, as it left them
 --   line_text                             the whole line
-use Rattle.std.specs.Prelude.{ℕ, List, [], ◌++◌, map, Some, None, Ok, Err, codes, decimal, Option}
+use Rattle.std.specs.Prelude.{ℕ, List, [], ◌++◌, map, codes}
 use Rattle.machine.specs.declared.outputs.Command.{Command}
 use Rattle.runs.specs.Entries.{Entry}
-use Rattle.runs.specs.declared.Answer.{Answer}
-use Rattle.runs.specs.declared.Answer.TheVariants as answer
+use Rattle.runs.specs.Texts.{call_text, answer_text}
 use Rattle.runs.specs.declared.Call.{Call}
 use Rattle.runs.specs.declared.Call.TheVariants as call
-use Rattle.sheet.specs.Refusals.{refusal_number, refusal_value}
-use Rattle.sheet.specs.declared.answers.Pair.{Pair}
-use Rattle.sheet.specs.declared.answers.Pair.TheVariants as pairs
-use Rattle.sheet.specs.declared.answers.Refusal.{Refusal}
-use Rattle.sheet.specs.declared.answers.Round.{Round}
-use Rattle.sheet.specs.declared.answers.Round.TheVariants as round
 use Rattle.texts.specs.Numbers.{numbers_text}
-
-abbrev pub call_text : Call → List ℕ
-call_text call.Round = codes "round"
-call_text (call.Pair s t) = codes "pair " ++ (decimal s ++ (codes " " ++ decimal t))
-call_text call.Map = codes "map"
-call_text (call.Word s t) = codes "word " ++ (decimal s ++ (codes " " ++ decimal t))
-call_text call.Table = codes "table"
-
--- a number, and the value that comes with it
-abbrev pub number_text : ℕ → Option ℕ → List ℕ
-number_text n (Some v) = codes "refused " ++ (decimal n ++ (codes " " ++ decimal v))
-number_text n None = codes "refused " ++ decimal n
-
-abbrev pub refusal_text : Refusal → List ℕ
-refusal_text e = number_text (refusal_number e) (refusal_value e)
-
-abbrev pub round_text : Round → List ℕ
-round_text (round.Split c) = codes "split " ++ decimal c
-round_text (round.Settled c) = codes "settled " ++ decimal c
-
-abbrev pub pair_text : Pair → List ℕ
-pair_text (pairs.Apart j) = codes "apart " ++ decimal j
-pair_text pairs.Together = codes "together"
-pair_text pairs.Equivalent = codes "equivalent"
-
-abbrev pub answer_text : Answer → List ℕ
-answer_text (answer.Round (Ok a)) = round_text a
-answer_text (answer.Round (Err e)) = refusal_text e
-answer_text (answer.Pair (Ok a)) = pair_text a
-answer_text (answer.Pair (Err e)) = refusal_text e
-answer_text (answer.Map (Ok u)) = codes "done"
-answer_text (answer.Map (Err e)) = refusal_text e
-answer_text (answer.Word (Ok n)) = decimal n
-answer_text (answer.Word (Err e)) = refusal_text e
-answer_text (answer.Table (Ok t)) = codes "classes " ++ (decimal t.classes ++ (codes " start " ++ decimal t.start))
-answer_text (answer.Table (Err e)) = refusal_text e
 
 -- a buffer's numbers
 abbrev pub kept_text : List ℕ → List ℕ

@@ -94,3 +94,4 @@ pub fn play<M: Machine + Drop, R: Recorder<M::Out>>(
 }
 
 pub mod logs;
+mod shown;
