@@ -1,63 +1,55 @@
 -- Answers as lines.
---   Grown                                                                            a text has grown by another, where that is known
---   refusal_line                                                                     a refusal of a sheet, with its number and value
---   round_line, settle_line, told_line, pair_line, map_line, word_line, table_line   what each call on a sheet answers
---   fault_line                                                                       a fault, by the cause at its bottom and its words
-use Rattle.std.specs.Prelude.{◌≡◌, ℕ, List, ◌++◌, IfSome, Some, None, Ok, Err, codes, decimal, Option, Result}
+--   answer_line, map_line                    what a call on a sheet answers
+--   fault_line, entry_line                   a fault, by the cause at its bottom and its words; an entry
+--   check_refusal_line, check_line, written_line   why a machine is not sound; what its check answers, and its writing
+use Rattle.std.specs.Prelude.{ℕ, List, ◌++◌, Some, Ok, Err, codes, decimal, Option, Result}
 use Rattle.machine.specs.Causes.{cause_number}
+use Rattle.machine.specs.Checks.{check_number}
+use Rattle.machine.specs.declared.Cell.{Cell}
+use Rattle.machine.specs.declared.checks.CheckRefusal.{CheckRefusal}
+use Rattle.machine.specs.declared.checks.CheckRefusal.TheVariants as unsound
 use Rattle.machine.specs.declared.faults.Cause.{Cause}
-use Rattle.sheet.specs.Refusals.{refusal_number, refusal_value}
-use Rattle.sheet.specs.declared.answers.Pair.{Pair}
-use Rattle.sheet.specs.declared.answers.Pair.TheVariants as pairs
+use Rattle.sheet.specs.Texts.{refusal_text}
 use Rattle.sheet.specs.declared.answers.Refusal.{Refusal}
-use Rattle.sheet.specs.declared.answers.Round.{Round}
-use Rattle.sheet.specs.declared.answers.Round.TheVariants as round
-use Rattle.sheet.specs.declared.answers.Settling.{Settling}
-use Rattle.sheet.specs.declared.answers.Table.{Table}
 use Rattle.std.specs.Fmt.{option_append}
+use Rattle.writing.specs.Writes.{write_number}
+use Rattle.writing.specs.declared.writes.WriteRefusal.{WriteRefusal}
+use Rattle.writing.specs.declared.writes.WriteRefusal.TheVariants as refusal
 
--- a text has grown by another, where that is known
-abbrev pub Grown : Option (List ℕ) → List ℕ → List ℕ → Type 0
-Grown more before after = IfSome more (λ bs. after ≡ before ++ bs)
+-- the answer in its own words, or the refusal
+abbrev pub answer_line : {A : Type 0} → (A → Option (List ℕ)) → Result A Refusal → Option (List ℕ)
+answer_line words (Ok a) = option_append (words a) (Some (codes "\n"))
+answer_line words (Err e) = Some (refusal_text e ++ codes "\n")
 
-abbrev pub numbered : ℕ → Option ℕ → List ℕ
-numbered n (Some v) = codes "refused " ++ (decimal n ++ (codes " " ++ (decimal v ++ codes "\n")))
-numbered n None = codes "refused " ++ (decimal n ++ codes "\n")
-
-abbrev pub refusal_line : Refusal → List ℕ
-refusal_line e = numbered (refusal_number e) (refusal_value e)
-
-abbrev pub round_line : Result Round Refusal → List ℕ
-round_line (Ok (round.Split c)) = codes "split " ++ (decimal c ++ codes "\n")
-round_line (Ok (round.Settled c)) = codes "settled " ++ (decimal c ++ codes "\n")
-round_line (Err e) = refusal_line e
-
-abbrev pub settle_line : Result Settling Refusal → List ℕ
-settle_line (Ok a) = codes "rounds " ++ (decimal a.rounds ++ (codes " count " ++ (decimal a.count ++ codes "\n")))
-settle_line (Err e) = refusal_line e
-
-abbrev pub told_line : Pair → List ℕ
-told_line (pairs.Apart j) = codes "apart " ++ (decimal j ++ codes "\n")
-told_line pairs.Together = codes "together\n"
-told_line pairs.Equivalent = codes "equivalent\n"
-
-abbrev pub pair_line : Result Pair Refusal → List ℕ
-pair_line (Ok p) = told_line p
-pair_line (Err e) = refusal_line e
-
+-- a map has no words of its own
 abbrev pub map_line : Result (Unit {0}) Refusal → List ℕ
 map_line (Ok u) = codes "done\n"
-map_line (Err e) = refusal_line e
-
-abbrev pub word_line : Result ℕ Refusal → List ℕ
-word_line (Ok n) = decimal n ++ codes "\n"
-word_line (Err e) = refusal_line e
-
-abbrev pub table_line : Result Table Refusal → List ℕ
-table_line (Ok t) = codes "classes " ++ (decimal t.classes ++ (codes " start " ++ (decimal t.start ++ codes "\n")))
-table_line (Err e) = refusal_line e
+map_line (Err e) = refusal_text e ++ codes "\n"
 
 -- the cause at the bottom, and the fault's own words
 abbrev pub fault_line : Cause → Option (List ℕ) → Option (List ℕ)
 fault_line c words =
     option_append (Some (codes "cause ")) (option_append (Some (decimal (cause_number c))) (option_append (Some (codes ", ")) (option_append words (Some (codes "\n")))))
+
+module _ {F : Type 0} (root : F → Cause) (words : F → Option (List ℕ)) where
+  -- the next state and the output of a cell, or the fault in its place
+  abbrev pub entry_line : {O : Type 0} → (O → List ℕ) → Result (Cell O) F → Option (List ℕ)
+  entry_line output (Ok c) = Some (decimal c.next ++ (output c.output ++ codes "\n"))
+  entry_line output (Err f) = fault_line (root f) (words f)
+
+  abbrev pub check_refusal_line : CheckRefusal F → Option (List ℕ)
+  check_refusal_line (unsound.Misfit f) =
+      option_append (Some (codes "refused " ++ (decimal (check_number (unsound.Misfit f)) ++ codes " "))) (fault_line (root f) (words f))
+  check_refusal_line (unsound.Hole s i f) =
+      option_append (Some (codes "refused " ++ (decimal (check_number (unsound.Hole s i f)) ++ (codes " state " ++ (decimal s ++ (codes " input " ++ (decimal i ++ codes " "))))))) (fault_line (root f) (words f))
+
+  abbrev pub check_line : {U : Type 0} → Result U (CheckRefusal F) → Option (List ℕ)
+  check_line (Ok u) = Some (codes "sound\n")
+  check_line (Err e) = check_refusal_line e
+
+  -- the length written, or the length needed
+  abbrev pub written_line : Result ℕ (WriteRefusal F) → Option (List ℕ)
+  written_line (Ok n) = Some (decimal n ++ codes "\n")
+  written_line (Err (refusal.Unsound e)) = check_refusal_line e
+  written_line (Err (refusal.Short n)) =
+      Some (codes "refused " ++ (decimal (write_number {F = F} (refusal.Short n)) ++ (codes " " ++ (decimal n ++ codes "\n"))))

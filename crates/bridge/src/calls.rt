@@ -1,9 +1,6 @@
 //! What a script asks of a machine and of its sheet, told line by line.
 use crate::buffers::{Item, buffer, push_all};
-use crate::lines::{
-    push_check, push_entry, push_map, push_pair, push_round, push_settling, push_table, push_word,
-    push_write,
-};
+use crate::lines::{push_answer, push_check, push_entry, push_map, push_write};
 use crate::scripts::Script;
 use crate::troubles::Trouble;
 use machine::{Command, Fault, Machine, check};
@@ -68,7 +65,7 @@ fn tell_word<M: Machine>(
     let s = script.number();
     let t = script.number();
     let mut out = buffer::<u16>(script.heap(), script.number())?;
-    push_word(text, sheet.word(s, t, &mut out))?;
+    push_answer(text, &sheet.word(s, t, &mut out))?;
     push_all(text, &out)?;
     write!(text, "\n")?;
     Ok(())
@@ -81,7 +78,7 @@ fn tell_table<O: Item, M: Machine<Out = O>>(
 ) -> Result<(), Trouble> {
     let mut next = buffer::<u16>(script.heap(), script.number())?;
     let mut outputs = buffer::<O>(script.heap(), script.number())?;
-    push_table(text, sheet.table(&mut next, &mut outputs))?;
+    push_answer(text, &sheet.table(&mut next, &mut outputs))?;
     push_all(text, &next)?;
     write!(text, "\n")?;
     push_all(text, &outputs)?;
@@ -96,12 +93,12 @@ fn tell_call<O: Item, M: Machine<Out = O>>(
     text: &mut String,
 ) -> Result<(), Trouble> {
     match script.number() {
-        0 => Ok(push_round(text, sheet.round())?),
-        1 => Ok(push_settling(text, sheet.settle())?),
+        0 => Ok(push_answer(text, &sheet.round())?),
+        1 => Ok(push_answer(text, &sheet.settle())?),
         2 => {
             let s = script.number();
             let t = script.number();
-            Ok(push_pair(text, sheet.pair(s, t))?)
+            Ok(push_answer(text, &sheet.pair(s, t))?)
         }
         3 => tell_map(sheet, script, text),
         4 => tell_word(sheet, script, text),
