@@ -1,15 +1,14 @@
 //! A log as text, a line for each call.
 #![tactic(auto)]
 
-ghost use Rattle.std.specs.Prelude.{◌≡◌, ◌++◌, map, string_bytes, OnOk};
+ghost use Rattle.std.specs.Prelude.{◌≡◌, ◌++◌, string_bytes, OnOk};
 ghost use Rattle.runs.specs.Lines.{entry_at};
-ghost use Rattle.texts.specs.Numbers.{numbers_text};
-ghost use Rattle.log_texts.specs.Lines.{kept_text, table_text, buffers_text, line_text, number_of};
+ghost use Rattle.log_texts.specs.Lines.{kept_text, table_text, buffers_text, line_text};
 
 use machine::Command;
 use runs::{Call, Line};
 use std::alloc::AllocError;
-use texts::push_numbers;
+use texts::push_each;
 
 /// Adds a line for an entry of a log: the call, what it was answered, and the buffers that such a call may write, as it left them.
 pub fn push_line(text: &mut String, line: &Line<Command>) -> Result<(), AllocError>
@@ -19,16 +18,6 @@ pub fn push_line(text: &mut String, line: &Line<Command>) -> Result<(), AllocErr
     write!(text, "{call}: {answer}")?;
     push_buffers(text, line)?;
     write!(text, "\n")
-}
-
-fn push_commands(text: &mut String, commands: &[Command]) -> Result<(), AllocError>
-    ensures { OnOk result (string_bytes text.new ≡ string_bytes text.old ++ numbers_text (map number_of commands.now)) }
-{
-    for command in commands {
-        let number = command.number;
-        write!(text, " {number}")?;
-    }
-    Ok(())
 }
 
 fn push_buffers(text: &mut String, line: &Line<Command>) -> Result<(), AllocError>
@@ -46,12 +35,12 @@ fn push_table(text: &mut String, next: &[u16], outputs: &[Command]) -> Result<()
 {
     push_kept(text, next)?;
     write!(text, " and")?;
-    push_commands(text, outputs)
+    push_each(text, outputs)
 }
 
 fn push_kept(text: &mut String, numbers: &[u16]) -> Result<(), AllocError>
     ensures { OnOk result (string_bytes text.new ≡ string_bytes text.old ++ kept_text numbers.now) }
 {
     write!(text, " with")?;
-    push_numbers(text, numbers)
+    push_each(text, numbers)
 }
