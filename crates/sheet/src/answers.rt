@@ -72,8 +72,7 @@ impl Refusal {
             Refusal::NoSuchState => 5,
             Refusal::NotApart => 6,
             Refusal::Unsettled => 7,
-            Refusal::Short { .. } => 8,
-            Refusal::ShortTable(_) => 8,
+            Refusal::Short { .. } | Refusal::ShortTable(_) => 8,
         }
     }
 
@@ -83,13 +82,12 @@ impl Refusal {
     {
         match self {
             Refusal::Short { needed } => Some(needed),
-            Refusal::ShortTable(TableBuffer::Next) => Some(1),
-            Refusal::ShortTable(TableBuffer::Outputs) => Some(2),
-            Refusal::Unsound => None,
-            Refusal::AlreadySettled => None,
-            Refusal::NoSuchState => None,
-            Refusal::NotApart => None,
-            Refusal::Unsettled => None,
+            Refusal::ShortTable(buffer) => Some(buffer as usize),
+            Refusal::Unsound
+            | Refusal::AlreadySettled
+            | Refusal::NoSuchState
+            | Refusal::NotApart
+            | Refusal::Unsettled => None,
         }
     }
 }
