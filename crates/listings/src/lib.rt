@@ -1,7 +1,7 @@
 //! A chain's machine reduced and shown, in one of several views, of which the plain listing is the first.
 #![tactic(auto)]
 
-ghost use Rattle.std.specs.Prelude.{◌≡◌, ℕ, List, ◌++◌, IfOk, string_bytes, OnOk};
+ghost use Rattle.std.specs.Prelude.{◌≡◌, ℕ, List, ◌++◌, is_ok, IfOk, string_bytes, OnOk};
 ghost use Rattle.forms.specs.Chains.{chain_opening};
 ghost use Rattle.forms.specs.Forms.{chain_of};
 ghost use Rattle.listings.specs.Lists.{Lists, lists_in};
@@ -25,7 +25,7 @@ pub trait View {
 
 /// Opens the bytes as a chain, reduces its machine and shows it; a refusal is told in its place.
 pub fn show<V: View>(heap: Global, bytes: Vec<u8>, view: &V) -> Result<Report, AllocError>
-    ensures { IfOk result (λ x. Shown (V.View.shown view.now) (chain_opening bytes.items) (string_bytes x.text) x.accepted) }
+    ensures { IfOk result (λ x. Shown (V.View.shown view.now) (chain_opening bytes.items) (string_bytes x.text) (is_ok x.verdict)) }
 {
     match Chain::open(bytes) {
         Ok(chain) => show_chain(heap, chain, view),
@@ -34,7 +34,7 @@ pub fn show<V: View>(heap: Global, bytes: Vec<u8>, view: &V) -> Result<Report, A
 }
 
 fn show_chain<V: View>(heap: Global, chain: Chain, view: &V) -> Result<Report, AllocError>
-    ensures { IfOk result (λ x. ShownMachine (V.View.shown view.now) (chain_of chain) (string_bytes x.text) x.accepted) }
+    ensures { IfOk result (λ x. ShownMachine (V.View.shown view.now) (chain_of chain) (string_bytes x.text) (is_ok x.verdict)) }
 {
     match reduce(heap, chain) {
         Ok(reduction) => {
@@ -42,13 +42,11 @@ fn show_chain<V: View>(heap: Global, chain: Chain, view: &V) -> Result<Report, A
             view.push(&mut text, &reduction)?;
             Ok(Report {
                 text,
-                accepted: true,
+                verdict: Ok(()),
             })
         }
-        Err(unreduced) => match unreduced {
-            Unreduced::Unsound(refusal) => Report::of_unsound(heap, &refusal),
-            Unreduced::NoMemory => Err(AllocError),
-        },
+        Err(Unreduced::Unsound(refusal)) => Report::of_unsound(heap, &refusal),
+        Err(Unreduced::NoMemory) => Err(AllocError),
     }
 }
 

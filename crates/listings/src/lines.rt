@@ -1,17 +1,19 @@
 //! A reduction in lines.
+// stays: text and reduction as two parameters; as `struct Rows<'a>(&'a Reduction<Command>)` with `impl Display` each line below would be a
+// type, an impl and an `output` in place of one function, and `push` would still pass the reduction to each
 ghost use Rattle.std.specs.Prelude.{◌≡◌, ◌+◌, ◌<◌, ◌++◌, map, string_bytes, OnOk, slice_index};
-ghost use Rattle.std.specs.List.{range_with_len};
-ghost use Rattle.machine.specs.declared.outputs.Command.{Command as command};
+ghost use Rattle.std.specs.List.{range_with_len, slice_get};
+ghost use Rattle.std.specs.Option.{UnwrapsOrElse};
 ghost use Rattle.reductions.specs.Aparts.{apart_of};
 ghost use Rattle.texts.specs.Each.{each};
 ghost use Rattle.listings.specs.Lines.{sizes_text, settling_text, map_text, cell_text, row_text, rows_text, apart_text, aparts_text, listing_text};
 ghost use Rattle.listings.specs.Lists.{lists_in};
 
 use crate::View;
-use machine::Command;
+use machine::{Cell, Command};
 use reductions::{Apart, Reduction};
 use std::alloc::AllocError;
-use texts::push_numbers;
+use texts::push_each;
 
 /// The plain listing: sizes, rounds, map, rows, and what tells classes apart.
 #[derive(Clone, Copy)]
@@ -51,7 +53,7 @@ fn push_map(text: &mut String, numbering: &[u16]) -> Result<(), AllocError>
     ensures { OnOk result (string_bytes text.new ≡ string_bytes text.old ++ map_text numbering.now) }
 {
     write!(text, "map")?;
-    push_numbers(text, numbering)?;
+    push_each(text, numbering)?;
     write!(text, "\n")
 }
 
@@ -82,33 +84,28 @@ fn push_cells(
     requires { first < 4294967296 }
     ensures { OnOk result (string_bytes text.new ≡ string_bytes text.old ++ each (cell_text (lists_in reduction.now)) (range_with_len first reduction.now.inputs)) }
 {
-    for input in 0..reduction.inputs as usize {
-        let next = number_at(&reduction.next, first + input);
-        let output = command_at(&reduction.outputs, first + input);
+    for place in first..first + reduction.inputs as usize {
+        let Cell { next, output } = cell_at(reduction, place);
         write!(text, " {next} {output}")?;
     }
     Ok(())
 }
 
-/// The number at a place, or 0.
-pub fn number_at(numbers: &[u16], place: usize) -> u16
-    ensures { result ≡ slice_index numbers.now place }
+/// The item at a place, or the default.
+pub fn item_at<T: Copy + Default>(items: &[T], place: usize) -> T
+    ensures { UnwrapsOrElse (slice_get items.now place) T.is_default result }
 {
-    if place < numbers.len() {
-        numbers[place]
-    } else {
-        0
-    }
+    items.get(place).copied().unwrap_or_default()
 }
 
-/// The number of the command at a place, or 0.
-pub fn command_at(commands: &[Command], place: usize) -> u16
-    ensures { result ≡ slice_index (map (λ (c : command). c.number) commands.now) place }
+/// The next class and the output at a place of the table.
+pub fn cell_at(reduction: &Reduction<Command>, place: usize) -> Cell<Command>
+    ensures next { result.next ≡ slice_index (lists_in reduction.now).next place }
+    ensures output { result.output.number ≡ slice_index (lists_in reduction.now).outputs place }
 {
-    if place < commands.len() {
-        commands[place].number
-    } else {
-        0
+    Cell {
+        next: item_at(&reduction.next, place),
+        output: item_at(&reduction.outputs, place),
     }
 }
 
@@ -128,6 +125,6 @@ fn push_apart(text: &mut String, apart: &Apart) -> Result<(), AllocError>
     let first = apart.first;
     let second = apart.second;
     write!(text, "apart {first} {second} by")?;
-    push_numbers(text, &apart.word)?;
+    push_each(text, &apart.word)?;
     write!(text, "\n")
 }

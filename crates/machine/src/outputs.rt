@@ -14,7 +14,7 @@ pub trait Output: Copy {
 }
 
 /// A command to the renderer, known by its number.
-#[derive(Clone, Copy, PartialEq, Eq, Debug)]
+#[derive(Clone, Copy, PartialEq, Eq, Debug, Default)]
 pub struct Command {
     pub number: u16,
 }

@@ -2,7 +2,9 @@
 use Rattle.std.proofs.Common.{◌≡◌, ℕ, suc, ◌+◌, ◌-◌, ◌<◌, ◌≤◌, List, [], ◌∷◌, ◌++◌, length, get_or, drop, codes, decimal, map, Some, sym, refl, ap, ◌∙◌, append_assoc, append-nil, add-one, arith, drop-cons}
 use lib.Seq.{drop-length}
 use Rattle.std.proofs.lemmas.List.Folds.{flat_map-map}
-use Rattle.std.specs.List.{range_with_len}
+use Rattle.std.proofs.lemmas.List.FromFn.{map-range_with_len_more}
+use Rattle.std.proofs.lemmas.Grind.{flat_map-append}
+use Rattle.std.specs.List.{flat_map, range_with_len}
 use Rattle.texts.specs.Each.{each, AddsPrinted}
 use Rattle.texts.specs.Numbers.{spaced, numbers_text}
 
@@ -27,6 +29,26 @@ module _ {B : Type 0} (f : ℕ → List B) where
 
   pub each_end : (old : List B) (a n i : ℕ) → n ≤ i → old ++ each f (range_with_len (a + i) (n - i)) ≡ old
   each_end old a n i h = let none : n - i ≡ 0 = omega arith in rw (none, append-nil)
+
+  -- one number more at the end of those that were added
+  longer : (a n x : ℕ) → a + n ≡ x → each f (range_with_len a (n + 1)) ≡ each f (range_with_len a n) ++ f x
+  longer a n x e =
+      let same : List B → List B = λ l. l in
+      sym (flat_map-map same f (range_with_len a (n + 1))) ∙ ap (flat_map same) (map-range_with_len_more f a n x e)
+      ∙ flat_map-append same (map f (range_with_len a n)) (f x ∷ [])
+      ∙ ap (λ (l : List B). l ++ (f x ++ [])) (flat_map-map same f (range_with_len a n)) ∙ simp append-nil
+
+  pub each_more : (old mid new : List B) (a n x : ℕ) → mid ≡ old ++ each f (range_with_len a n) → new ≡ mid ++ f x → a + n ≡ x
+      → new ≡ old ++ each f (range_with_len a (n + 1))
+  each_more old mid new a n x so more e =
+      more ∙ ap (λ (t : List B). t ++ f x) so ∙ append_assoc old (each f (range_with_len a n)) (f x)
+      ∙ ap (λ (t : List B). old ++ t) (sym (longer a n x e))
+
+  pub each_up_to : (old mid new : List B) (a x : ℕ) → a ≤ x → mid ≡ old ++ each f (range_with_len a (x - a)) → new ≡ mid ++ f x
+      → new ≡ old ++ each f (range_with_len a (x + 1 - a))
+  each_up_to old mid new a x h so more =
+      let next : x + 1 - a ≡ x - a + 1 = omega arith in
+      rw next (each_more old mid new a (x - a) x so more (omega arith))
 
 -- one number more
 pub numbers_step : (old ns : List ℕ) (i n : ℕ) → i < length ns → n ≡ get_or ns i 0

@@ -20,8 +20,7 @@ returns-in_ok-push-in-Ok g c =
       refl,
     )
 
-pub returns-in-Unsound : goal.returns-in-Unsound
-returns-in-Unsound g c =
-    let m = chain_of c.args.chain in
-    let refused = subst (λ (u : Unreduced StoredFault). Reduced command_key m (Err u)) c.in-Unsound.is c.in-Err.ensures in
-    IfOk-weaker c.of_unsound.result _ _ (λ x told. (Err c.in-Unsound.refusal, refused, told.0, told.1)) c.of_unsound.ensures
+pub returns-in-Err-Unsound : goal.returns-in-Err-Unsound
+returns-in-Err-Unsound g c =
+    let refused = rw c.in-Err-Unsound.field-0-is at c.in-Err-Unsound.ensures in
+    IfOk-weaker c.of_unsound.result _ _ (λ x told. (Err c.in-Err-Unsound.refusal, refused, told.0, told.1)) c.of_unsound.ensures
