@@ -12,13 +12,11 @@ fn main(rt: HostRuntime) -> anyhow::Result<()> {
     let mut bytes = Vec::new(heap);
     rt.stdin().read_to_end(&mut bytes)?;
     let report = Report::of_bytes(heap, bytes.clone()?)?;
-    if !report.accepted {
+    if report.verdict.is_err() {
         rt.eprint(report.text.as_str())?;
-        return Err(anyhow!("refused"));
     }
-    let Ok(chain) = normalised(heap, bytes) else {
-        return Err(anyhow!("no memory"));
-    };
+    report.verdict?;
+    let chain = normalised(heap, bytes).map_err(|_| anyhow!("no memory"))?;
     rt.stdout().write_all(&chain)?;
     Ok(())
 }

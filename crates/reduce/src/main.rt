@@ -1,7 +1,6 @@
 //! Reads a chain from standard input and prints its report; a refusal ends the process with status 1.
 #![tactic(auto)]
 
-use anyhow::anyhow;
 use reports::Report;
 use std::io::Read;
 
@@ -11,9 +10,6 @@ fn main(rt: HostRuntime) -> anyhow::Result<()> {
     rt.stdin().read_to_end(&mut bytes)?;
     let report = Report::of_bytes(heap, bytes)?;
     rt.print(report.text.as_str())?;
-    if report.accepted {
-        Ok(())
-    } else {
-        Err(anyhow!("refused"))
-    }
+    report.verdict?;
+    Ok(())
 }

@@ -36,9 +36,7 @@ const CALLS: [Call; 22] = [
 /// Plays the calls with buffers of these lengths, filled with 9 before.
 fn rehearse(rt: &HostRuntime, bytes: Vec<u8>, numbers: usize, cells: usize) -> anyhow::Result<()> {
     let heap = rt.alloc();
-    let Ok(chain) = Chain::open(bytes) else {
-        return Err(anyhow!("no chain"));
-    };
+    let chain = Chain::open(bytes).map_err(|_| anyhow!("no chain"))?;
     let mut numbers = vec![in heap; 9u16; numbers]?;
     let mut next = vec![in heap; 9u16; cells]?;
     let mut outputs = vec![in heap; Command { number: 9 }; cells]?;

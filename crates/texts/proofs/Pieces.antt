@@ -1,6 +1,7 @@
 -- A text, or any list, made piece by piece.
-use Rattle.std.proofs.Common.{◌≡◌, ℕ, suc, ◌+◌, ◌-◌, ◌<◌, ◌≤◌, List, [], ◌∷◌, ◌++◌, length, get_or, drop, codes, decimal, map, Some, sym, refl, ap, ◌∙◌, append_assoc, append-nil, add-one, arith, drop-cons}
+use Rattle.std.proofs.Common.{◌≡◌, ℕ, suc, ◌+◌, ◌-◌, ◌<◌, ◌≤◌, List, [], ◌∷◌, ◌++◌, length, get_or, take, drop, codes, decimal, map, Some, sym, refl, ap, ◌∙◌, append_assoc, append-nil, add-one, arith, drop-cons}
 use lib.Seq.{drop-length}
+use Rattle.std.proofs.lemmas.List.{map_more}
 use Rattle.std.proofs.lemmas.List.Folds.{flat_map-map}
 use Rattle.std.proofs.lemmas.List.FromFn.{map-range_with_len_more}
 use Rattle.std.proofs.lemmas.Grind.{flat_map-append}
@@ -8,17 +9,17 @@ use Rattle.std.specs.List.{flat_map, range_with_len}
 use Rattle.texts.specs.Each.{each, AddsPrinted}
 use Rattle.texts.specs.Numbers.{spaced, numbers_text}
 
-module _ {A B : Type 0} (f : A → List B) where
-  -- one item more
-  pub each_step : (old : List B) (xs : List A) (i : ℕ) (x d : A) → i < length xs → x ≡ get_or xs i d
-      → (old ++ f x) ++ each f (drop (i + 1) xs) ≡ old ++ each f (drop i xs)
-  each_step old xs i x d h e = rw (add-one, drop-cons xs i d, ← e) (simp append_assoc)
+-- one item more, of which g reads what f adds
+pub each_item : {X A B : Type 0} (f : A → List B) (g : X → A) (old mid new : List B) (xs : List X) (i : ℕ) (x : X) → i < length xs → x ≡ get_or xs i x
+    → mid ≡ old ++ each f (map g (take i xs)) → new ≡ mid ++ f (g x) → new ≡ old ++ each f (map g (take (i + 1) xs))
+each_item {X = X} {A = A} {B = B} f g old mid new xs i x h is so more =
+    let done : List B = each f (map g (take i xs)) in
+    let whole : each f (map g (take (i + 1) xs)) ≡ done ++ f (g x) =
+    ap (flat_map f) (map_more g xs i x h) ∙ flat_map-append f (map g (take i xs)) (g (get_or xs i x) ∷ [])
+    ∙ ap (λ (y : X). done ++ (f (g y) ++ [])) (sym is) ∙ simp append-nil in
+    more ∙ ap (λ (t : List B). t ++ f (g x)) so ∙ append_assoc old done (f (g x)) ∙ ap (λ (t : List B). old ++ t) (sym whole)
 
-  -- no item left
-  pub each_done : (old : List B) (xs : List A) (i : ℕ) → i ≡ length xs → old ++ each f (drop i xs) ≡ old
-  each_done old xs i h = rw (h, drop-length, append-nil)
-
--- the same over numbers in a row, of which n - i are left at a + i
+-- numbers in a row, of which n - i are left at a + i
 module _ {B : Type 0} (f : ℕ → List B) where
   pub each_next : (old : List B) (a n i x : ℕ) → i < n → x ≡ a + i
       → (old ++ f x) ++ each f (range_with_len (a + (i + 1)) (n - (i + 1))) ≡ old ++ each f (range_with_len (a + i) (n - i))

@@ -1,4 +1,5 @@
 //! A card for a panel that was left in an unknown mode.
+// stays: text and reduction as two parameters, for the reason that listings/src/lines.rt gives
 ghost use Rattle.std.specs.Prelude.{◌≡◌, ◌++◌, map, IfOk, string_bytes, OnOk};
 ghost use Rattle.reductions.specs.Aparts.{apart_of};
 ghost use Rattle.listings.specs.Lists.{lists_in};
@@ -7,11 +8,11 @@ ghost use Rattle.views.specs.Telling.{CardTellsModes};
 
 use crate::members::push_members;
 use listings::View;
-use listings::lines::{command_at, number_at};
-use machine::Command;
+use listings::lines::cell_at;
+use machine::{Cell, Command};
 use reductions::{Apart, Reduction};
 use std::alloc::AllocError;
-use texts::push_numbers;
+use texts::push_each;
 
 /// The modes that are left, and for each two of them the keys that tell which of them the panel was in, and which it is in then.
 #[derive(Clone, Copy)]
@@ -51,8 +52,8 @@ fn push_mode(text: &mut String, numbering: &[u16], class: u16) -> Result<(), All
 fn push_tellings(text: &mut String, reduction: &Reduction<Command>) -> Result<(), AllocError>
     ensures { OnOk result (string_bytes text.new ≡ string_bytes text.old ++ tellings_text (lists_in reduction.now)) }
 {
-    for i in 0..reduction.aparts.len() {
-        push_telling(text, reduction, &reduction.aparts[i])?;
+    for apart in &reduction.aparts {
+        push_telling(text, reduction, apart)?;
     }
     Ok(())
 }
@@ -68,7 +69,7 @@ fn push_telling(
     let first = apart.first;
     let second = apart.second;
     write!(text, "mode {first} or {second}: press")?;
-    push_numbers(text, &apart.word)?;
+    push_each(text, &apart.word)?;
     push_run(text, reduction, first, &apart.word)?;
     push_run(text, reduction, second, &apart.word)?;
     write!(text, "\n")
@@ -98,11 +99,11 @@ fn push_answers(
     ensures { IfOk result (λ last. Ran (lists_in reduction.now) mode word.now (string_bytes text.old) (string_bytes text.new) last) }
 {
     let mut at = mode;
-    for i in 0..word.len() {
-        let place = at as usize * reduction.inputs as usize + word[i] as usize;
-        let output = command_at(&reduction.outputs, place);
+    for input in word {
+        let place = at as usize * reduction.inputs as usize + *input as usize;
+        let Cell { next, output } = cell_at(reduction, place);
         write!(text, " {output}")?;
-        at = number_at(&reduction.next, place);
+        at = next;
     }
     Ok(at)
 }

@@ -1,12 +1,13 @@
 //! The reduced machine as Graphviz text.
+// stays: text and reduction as two parameters, for the reason that listings/src/lines.rt gives
 ghost use Rattle.std.specs.Prelude.{◌≡◌, ◌++◌, string_bytes, OnOk};
 ghost use Rattle.listings.specs.Lists.{lists_in};
 ghost use Rattle.views.specs.Drawings.{node_text, edge_text, edges_from, class_text, classes_text, drawing_text};
 
 use crate::members::push_members;
 use listings::View;
-use listings::lines::{command_at, number_at};
-use machine::Command;
+use listings::lines::cell_at;
+use machine::{Cell, Command};
 use reductions::Reduction;
 use std::alloc::AllocError;
 
@@ -78,7 +79,6 @@ fn push_edge(
     ensures { OnOk result (string_bytes text.new ≡ string_bytes text.old ++ edge_text (lists_in reduction.now) class input) }
 {
     let place = class as usize * reduction.inputs as usize + input as usize;
-    let next = number_at(&reduction.next, place);
-    let output = command_at(&reduction.outputs, place);
+    let Cell { next, output } = cell_at(reduction, place);
     write!(text, "  {class} -> {next} [label=\"{input}/{output}\"]\n")
 }

@@ -5,10 +5,10 @@ use Rattle.views.specs.Cards.{shows, ends}
 use Rattle.views.proofs.cards.push_answers.Given as goal
 
 -- what is left to show makes the whole, and leads to the same end
-abbrev pub invariant-loop-i : goal.invariant-loop-i
-invariant-loop-i l =
+abbrev pub invariant-loop-input : goal.invariant-loop-input
+invariant-loop-input l =
     let lists = lists_in l.reduction in
-    (string_bytes l.text ++ numbers_text (shows lists l.at (drop l.i l.word))
+    (string_bytes l.text ++ numbers_text (shows lists l.at (drop l.input-index l.word))
     ≡ string_bytes l.initial.text ++ numbers_text (shows lists l.mode l.word))
-    × (ends lists l.at (drop l.i l.word) ≡ ends lists l.mode l.word)
+    × (ends lists l.at (drop l.input-index l.word) ≡ ends lists l.mode l.word)
     × (l.at < 65536)

@@ -1,14 +1,11 @@
-use Rattle.std.proofs.Common.{ℕ, ◌+◌, ◌-◌, List, ◌++◌, vec_items, string_bytes, ap, ◌∙◌, arith}
-use Rattle.std.specs.List.{range_with_len}
-use Rattle.texts.specs.Each.{each}
-use Rattle.texts.proofs.Pieces.{each_next}
+use Rattle.std.proofs.Common.{ℕ, List, ◌++◌, vec_items, string_bytes, ap, ◌∙◌, zero-add}
+use Rattle.texts.proofs.Pieces.{each_more}
 use Rattle.views.specs.Cards.{mode_text}
 use Rattle.views.proofs.cards.push_modes.Goals as goal
 
 pub loop-class-preserved : goal.loop-class-preserved
 loop-class-preserved c =
-    let f : ℕ → List ℕ = mode_text (vec_items c.args.reduction.now.map) in
-    let n : ℕ = c.args.reduction.now.table.classes in
     let i : ℕ = c.loop-class.class in
-    ap (λ (t : List ℕ). t ++ each f (range_with_len (0 + (i + 1)) (n - (i + 1)))) (c.in_ok-push_mode.ensures ∙ ap (λ (x : List ℕ). string_bytes c.loop-class.text ++ mode_text x c.loop-class.class) c.deref.ensures.value)
-    ∙ each_next f (string_bytes c.loop-class.text) 0 n i i c.loop-class-test.true (omega arith) ∙ c.loop-class.invariant
+    let old : List ℕ = string_bytes c.loop-class.text in
+    each_more (mode_text (vec_items c.args.reduction.now.map)) (string_bytes c.args.text.now) old _ 0 i i c.loop-class.invariant
+    (c.in_ok-push_mode.ensures ∙ ap (λ (x : List ℕ). old ++ mode_text x i) c.deref.ensures.value) (zero-add i)

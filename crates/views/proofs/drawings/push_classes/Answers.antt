@@ -1,15 +1,11 @@
-use Rattle.std.proofs.Common.{ℕ, ◌+◌, ◌-◌, List, ◌++◌, string_bytes, ap, ◌∙◌, arith}
-use Rattle.std.specs.List.{range_with_len}
-use Rattle.texts.specs.Each.{each}
-use Rattle.texts.proofs.Pieces.{each_next}
+use Rattle.std.proofs.Common.{string_bytes, zero-add}
+use Rattle.texts.proofs.Pieces.{each_more}
 use Rattle.listings.specs.Lists.{lists_in}
 use Rattle.views.specs.Drawings.{class_text}
 use Rattle.views.proofs.drawings.push_classes.Goals as goal
 
 pub loop-class-preserved : goal.loop-class-preserved
 loop-class-preserved c =
-    let f : ℕ → List ℕ = class_text (lists_in c.args.reduction.now) in
-    let n : ℕ = c.args.reduction.now.table.classes in
-    let i : ℕ = c.loop-class.class in
-    ap (λ (t : List ℕ). t ++ each f (range_with_len (0 + (i + 1)) (n - (i + 1)))) c.in_ok-push_class.ensures
-    ∙ each_next f (string_bytes c.loop-class.text) 0 n i i c.loop-class-test.true (omega arith) ∙ c.loop-class.invariant
+    let i = c.loop-class.class in
+    each_more (class_text (lists_in c.args.reduction.now)) (string_bytes c.args.text.now) (string_bytes c.loop-class.text) _ 0 i i
+    c.loop-class.invariant c.in_ok-push_class.ensures (zero-add i)
