@@ -5,8 +5,7 @@ use listings::show;
 use std::io::Read;
 use views::Card;
 
-// stays: draw's main but for the view; as `run(&rt, &Card)` it would be a public function of a library, which could promise nothing of
-// what goes through the handle
+// stays: draw's main but for the view; `run(&rt, &Card)` would be a library's function with nothing to promise of what the handle does
 fn main(rt: HostRuntime) -> anyhow::Result<()> {
     let heap = rt.alloc();
     let mut bytes = Vec::new(heap);

@@ -5,8 +5,7 @@ use listings::show;
 use std::io::Read;
 use views::Drawing;
 
-// stays: card's main but for the view; as `run(&rt, &Drawing)` it would be a public function of a library, which could promise nothing of
-// what goes through the handle
+// stays: card's main but for the view; `run(&rt, &Drawing)` would be a library's function with nothing to promise of what the handle does
 fn main(rt: HostRuntime) -> anyhow::Result<()> {
     let heap = rt.alloc();
     let mut bytes = Vec::new(heap);

@@ -1,7 +1,6 @@
 //! A reduction in lines.
-// stays: text and reduction as two parameters; as `struct Rows<'a>(&'a Reduction<Command>)` with `impl Display` each line below would be a
-// type, an impl and an `output` in place of one function, and `push` would still pass the reduction to each
-ghost use Rattle.std.specs.Prelude.{◌≡◌, ◌+◌, ◌<◌, ◌++◌, map, string_bytes, OnOk, slice_index};
+// stays: text and reduction; with `struct Rows<'a>(&'a Reduction<Command>)` and the like each function would be a type, an impl and an `output`
+ghost use Rattle.std.specs.Prelude.{◌≡◌, ◌+◌, ◌*◌, ◌++◌, map, string_bytes, OnOk, slice_index};
 ghost use Rattle.std.specs.List.{range_with_len, slice_get};
 ghost use Rattle.std.specs.Option.{UnwrapsOrElse};
 ghost use Rattle.reductions.specs.Aparts.{apart_of};
@@ -71,21 +70,19 @@ fn push_row(text: &mut String, reduction: &Reduction<Command>, class: u16) -> Re
     ensures { OnOk result (string_bytes text.new ≡ string_bytes text.old ++ row_text (lists_in reduction.now) class) }
 {
     write!(text, "row {class}")?;
-    push_cells(text, reduction, class as usize * reduction.inputs as usize)?;
+    push_cells(text, reduction, class)?;
     write!(text, "\n")
 }
 
-/// The cells from a place on, one for each input.
 fn push_cells(
     text: &mut String,
     reduction: &Reduction<Command>,
-    first: usize,
+    class: u16,
 ) -> Result<(), AllocError>
-    requires { first < 4294967296 }
-    ensures { OnOk result (string_bytes text.new ≡ string_bytes text.old ++ each (cell_text (lists_in reduction.now)) (range_with_len first reduction.now.inputs)) }
+    ensures { OnOk result (string_bytes text.new ≡ string_bytes text.old ++ each (cell_text (lists_in reduction.now)) (range_with_len (class * reduction.now.inputs) reduction.now.inputs)) }
 {
-    for place in first..first + reduction.inputs as usize {
-        let Cell { next, output } = cell_at(reduction, place);
+    for input in 0..reduction.inputs {
+        let Cell { next, output } = cell_at(reduction, class, input);
         write!(text, " {next} {output}")?;
     }
     Ok(())
@@ -98,11 +95,12 @@ pub fn item_at<T: Copy + Default>(items: &[T], place: usize) -> T
     items.get(place).copied().unwrap_or_default()
 }
 
-/// The next class and the output at a place of the table.
-pub fn cell_at(reduction: &Reduction<Command>, place: usize) -> Cell<Command>
-    ensures next { result.next ≡ slice_index (lists_in reduction.now).next place }
-    ensures output { result.output.number ≡ slice_index (lists_in reduction.now).outputs place }
+/// The next class and the output of a class at an input, by their place in the table.
+pub fn cell_at(reduction: &Reduction<Command>, class: u16, input: u16) -> Cell<Command>
+    ensures next { result.next ≡ slice_index (lists_in reduction.now).next (class * reduction.now.inputs + input) }
+    ensures output { result.output.number ≡ slice_index (lists_in reduction.now).outputs (class * reduction.now.inputs + input) }
 {
+    let place = class as usize * reduction.inputs as usize + input as usize;
     Cell {
         next: item_at(&reduction.next, place),
         output: item_at(&reduction.outputs, place),

@@ -1,5 +1,5 @@
 //! A card for a panel that was left in an unknown mode.
-// stays: text and reduction as two parameters, for the reason that listings/src/lines.rt gives
+// stays: text and reduction as two parameters, as in listings: a type with `impl Display` for each function would be an `output` and a proof more
 ghost use Rattle.std.specs.Prelude.{◌≡◌, ◌++◌, map, IfOk, string_bytes, OnOk};
 ghost use Rattle.reductions.specs.Aparts.{apart_of};
 ghost use Rattle.listings.specs.Lists.{lists_in};
@@ -100,8 +100,7 @@ fn push_answers(
 {
     let mut at = mode;
     for input in word {
-        let place = at as usize * reduction.inputs as usize + *input as usize;
-        let Cell { next, output } = cell_at(reduction, place);
+        let Cell { next, output } = cell_at(reduction, at, *input);
         write!(text, " {output}")?;
         at = next;
     }

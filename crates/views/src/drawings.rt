@@ -1,5 +1,5 @@
 //! The reduced machine as Graphviz text.
-// stays: text and reduction as two parameters, for the reason that listings/src/lines.rt gives
+// stays: text and reduction as two parameters, as in listings: a type with `impl Display` for each function would be an `output` and a proof more
 ghost use Rattle.std.specs.Prelude.{◌≡◌, ◌++◌, string_bytes, OnOk};
 ghost use Rattle.listings.specs.Lists.{lists_in};
 ghost use Rattle.views.specs.Drawings.{node_text, edge_text, edges_from, class_text, classes_text, drawing_text};
@@ -78,7 +78,6 @@ fn push_edge(
 ) -> Result<(), AllocError>
     ensures { OnOk result (string_bytes text.new ≡ string_bytes text.old ++ edge_text (lists_in reduction.now) class input) }
 {
-    let place = class as usize * reduction.inputs as usize + input as usize;
-    let Cell { next, output } = cell_at(reduction, place);
+    let Cell { next, output } = cell_at(reduction, class, input);
     write!(text, "  {class} -> {next} [label=\"{input}/{output}\"]\n")
 }

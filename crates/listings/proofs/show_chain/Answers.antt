@@ -1,10 +1,7 @@
-use Rattle.std.proofs.Common.{ℕ, List, ◌++◌, Ok, Err, refl, ap, ◌∙◌, subst}
+use Rattle.std.proofs.Common.{ℕ, List, ◌++◌, Ok, Err, refl, ap, ◌∙◌}
 use Rattle.std.proofs.lemmas.Result.{IfOk-weaker}
 use Rattle.forms.specs.Forms.{chain_of}
-use Rattle.machine.specs.declared.faults.StoredFault.{StoredFault}
-use Rattle.reductions.specs.Reductions.{Reduced}
-use Rattle.reductions.specs.declared.Unreduced.{Unreduced}
-use Rattle.listings.specs.Lists.{Lists, command_key, lists_in}
+use Rattle.listings.specs.Lists.{Lists, lists_in}
 use Rattle.listings.proofs.Reduced.{lists_are}
 use Rattle.listings.proofs.show_chain.Goals as goal
 

@@ -1,4 +1,4 @@
-use Rattle.std.proofs.Common.{◌≡◌, ◌-◌, ◌++◌, string_bytes}
+use Rattle.std.proofs.Common.{◌≡◌, ◌*◌, ◌++◌, string_bytes}
 use Rattle.std.specs.List.{range_with_len}
 use Rattle.texts.specs.Each.{each}
 use Rattle.listings.specs.Lines.{cell_text}
@@ -6,7 +6,7 @@ use Rattle.listings.specs.Lists.{lists_in}
 use Rattle.listings.proofs.lines.push_cells.Given as goal
 
 -- what was added so far
-abbrev pub invariant-loop-place : goal.invariant-loop-place
-invariant-loop-place l =
+abbrev pub invariant-loop-input : goal.invariant-loop-input
+invariant-loop-input l =
     string_bytes l.text
-    ≡ string_bytes l.initial.text ++ each (cell_text (lists_in l.reduction)) (range_with_len l.first (l.place - l.first))
+    ≡ string_bytes l.initial.text ++ each (cell_text (lists_in l.reduction)) (range_with_len (l.class * l.reduction.inputs) l.input)

@@ -14,7 +14,7 @@ loop-state-preserved c =
     let told = λ (b : Bool). text ++ member_text b i in
     let more : string_bytes c.if-own-class.text ≡ text ++ f i =
     elim c.if-own-class.branch [
-      then-own-class+in_ok-write w ↦ ap string_bytes w.text-is ∙ w.in_ok-write.ensures.bytes ∙ ap told (sym (eq-eqb own c.args.class w.if-own-class.true))
-    | else-own-class w ↦ ap string_bytes w.text-is ∙ sym (append-nil text) ∙ ap told (sym (ne_eqb own c.args.class w.if-own-class.false))
+      | then-own-class+in_ok-write w ↦ ap string_bytes w.text-is ∙ w.in_ok-write.ensures.bytes ∙ ap told (sym (eq-eqb own c.args.class w.if-own-class.true))
+      | else-own-class w ↦ ap string_bytes w.text-is ∙ sym (append-nil text) ∙ ap told (sym (ne_eqb own c.args.class w.if-own-class.false))
     ] in
     each_more f (string_bytes c.args.text.now) text _ 0 i i c.loop-state.invariant more (zero-add i)
