@@ -11,7 +11,7 @@ fn refusals_are_told_in_a_line(rt: HostRuntime) -> Result<(), Fail> {
         if text.starts_with("refused") {
             let shown = show(heap, changed(heap, place, number)?, &Listing)?;
             assert_eq!(rt; shown.text.as_str(), text);
-            assert!(rt; !shown.accepted);
+            assert!(rt; shown.verdict.is_err());
         }
     }
     Ok(())
@@ -21,7 +21,7 @@ fn refusals_are_told_in_a_line(rt: HostRuntime) -> Result<(), Fail> {
 fn the_start_is_told_as_a_state_and_as_a_class(rt: HostRuntime) -> Result<(), Fail> {
     let heap = rt.alloc();
     let shown = show(heap, changed(heap, 2, 5)?, &Listing)?;
-    assert!(rt; shown.accepted);
+    assert!(rt; shown.verdict.is_ok());
     assert_eq!(rt;
         shown.text.as_str(),
         "states 6 inputs 2 start 5\nrounds 4 blocks 4 start 3\nmap 0 1 2 0 1 3\nrow 0 1 0 3 0\nrow 1 0 0 2 0\nrow 2 0 1 1 0\nrow 3 2 1 0 0\napart 0 1 by 1 0 0\napart 0 2 by 0\napart 0 3 by 0\napart 1 2 by 0\napart 1 3 by 0\napart 2 3 by 0 0\n"
