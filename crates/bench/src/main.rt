@@ -6,12 +6,12 @@ ghost use Rattle.std.specs.Prelude.{◌≡◌, false, IfOk, Ok};
 ghost use Rattle.sheet.specs.Replies.{settle_reply};
 ghost use Rattle.sheet.specs.Stage.{stage_at};
 
-use crate::machines::Case;
+use crate::machines::{Case, Measured};
 use anyhow::anyhow;
 use machine::Machine;
 use sheet::{Settling, Sheet};
-use std::env;
 use std::time::Instant;
+use std::{env, fmt};
 
 mod machines;
 
@@ -39,28 +39,30 @@ const CASES: [Case; 3] = [Case::Alike, Case::Apart, Case::Stairs];
 /// States and inputs; of one row to the next one of them is fourfold.
 const SIZES: [(u16, u16); 6] = [(2, 2), (8, 2), (32, 2), (128, 2), (128, 8), (128, 32)];
 
-impl Form {
-    fn name(self) -> &'static str {
-        match self {
+impl fmt::Display for Form {
+    fn fmt<W: fmt::Write>(&self, f: &mut fmt::Formatter<W>) -> fmt::Result {
+        f.pad(match self {
             Form::Grid => "grid",
             Form::Chain => "chain",
             Form::Beside => "beside",
             Form::Train => "train",
             Form::Keymap => "keymap",
             Form::Deep => "deep",
-        }
+        })
     }
+}
 
+impl Form {
     /// Makes a machine of this form, which is not timed, and settles it.
-    fn settled(self, rt: &HostRuntime, case: Case, n: u16, k: u16) -> anyhow::Result<Settled> {
+    fn settled(self, rt: &HostRuntime, of: Measured) -> anyhow::Result<Settled> {
         let heap = rt.alloc();
         match self {
-            Form::Grid => settle(rt, machines::grid(heap, case, n, k)?),
-            Form::Chain => settle(rt, machines::chain(heap, case, n, k)?),
-            Form::Beside => settle(rt, machines::beside(heap, case, n, k)?),
-            Form::Train => settle(rt, machines::train(heap, case, n, k)?),
-            Form::Keymap => settle(rt, machines::keymap(heap, case, n, k)?),
-            Form::Deep => settle(rt, machines::deep(heap, case, n, k)?),
+            Form::Grid => settle(rt, of.grid(heap)?),
+            Form::Chain => settle(rt, of.chain(heap)?),
+            Form::Beside => settle(rt, of.beside(heap)?),
+            Form::Train => settle(rt, of.train(heap)?),
+            Form::Keymap => settle(rt, of.keymap(heap)?),
+            Form::Deep => settle(rt, of.deep(heap)?),
         }
     }
 }
@@ -85,37 +87,24 @@ fn settle<M: Machine + Drop>(rt: &HostRuntime, machine: M) -> anyhow::Result<Set
 }
 
 /// Settles a machine and then again, as often as repeats say; keeps the best time.
-fn best(
-    rt: &HostRuntime,
-    form: Form,
-    case: Case,
-    n: u16,
-    k: u16,
-    repeats: u32,
-) -> anyhow::Result<Settled> {
-    let mut best = form.settled(rt, case, n, k)?;
+fn best(rt: &HostRuntime, form: Form, of: Measured, repeats: u32) -> anyhow::Result<Settled> {
+    let mut best = form.settled(rt, of)?;
     for _ in 0..repeats {
-        let nanos = form.settled(rt, case, n, k)?.nanos;
-        if nanos < best.nanos {
-            best.nanos = nanos;
-        }
+        let again = form.settled(rt, of)?;
+        best.nanos = best.nanos.min(again.nanos);
     }
     Ok(best)
 }
 
-fn print_row(
-    rt: &HostRuntime,
-    form: Form,
-    case: Case,
-    n: u16,
-    k: u16,
-    repeats: u32,
-) -> anyhow::Result<()> {
-    let Settled { answer, nanos } = best(rt, form, case, n, k, repeats)?;
+fn print_row(rt: &HostRuntime, form: Form, of: Measured, repeats: u32) -> anyhow::Result<()> {
+    let Measured {
+        case,
+        states,
+        inputs,
+    } = of;
+    let Settled { answer, nanos } = best(rt, form, of, repeats)?;
     let Settling { rounds, count } = answer;
-    let form = form.name();
-    let case = case.name();
-    print!(rt; "{form:<6} {n:>6} {k:>6}  {case:<6} {rounds:>6} {count:>6}")?;
+    print!(rt; "{form:<6} {states:>6} {inputs:>6}  {case:<6} {rounds:>6} {count:>6}")?;
     if repeats > 0 {
         print!(rt; " {nanos:>12}")?;
     }
@@ -125,10 +114,10 @@ fn print_row(
 
 /// The argument, or 0: then no time is printed.
 fn repeats(rt: &HostRuntime) -> anyhow::Result<u32> {
-    for word in env::args(rt)?.skip(1) {
-        return Ok(word.parse::<u32>()?);
+    match env::args(rt)?.nth(1) {
+        Some(word) => Ok(word.parse::<u32>()?),
+        None => Ok(0),
     }
-    Ok(0)
 }
 
 fn main(rt: HostRuntime) -> anyhow::Result<()> {
@@ -136,8 +125,13 @@ fn main(rt: HostRuntime) -> anyhow::Result<()> {
     println!(rt; "form   states inputs  case   rounds blocks")?;
     for form in FORMS {
         for case in CASES {
-            for (n, k) in SIZES {
-                print_row(&rt, form, case, n, k, repeats)?;
+            for (states, inputs) in SIZES {
+                let of = Measured {
+                    case,
+                    states,
+                    inputs,
+                };
+                print_row(&rt, form, of, repeats)?;
             }
         }
     }

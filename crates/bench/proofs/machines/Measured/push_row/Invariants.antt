@@ -1,7 +1,7 @@
 use Rattle.std.proofs.Common.{◌≡◌, [], ◌∷◌, ◌++◌, vec_items}
 use Rattle.forms.specs.Entries.{command}
 use Rattle.bench.specs.Tables.{up_to}
-use Rattle.bench.proofs.machines.push_row.Given as goal
+use Rattle.bench.proofs.machines.Measured.push_row.Given as goal
 
 -- the cells before this input are added
 abbrev pub invariant-loop-input : goal.invariant-loop-input
