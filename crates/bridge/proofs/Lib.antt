@@ -1,2 +1,1 @@
 mod Handing
-mod Listing

@@ -33,8 +33,8 @@ fault_line c words =
 
 module _ {F : Type 0} (root : F → Cause) (words : F → Option (List ℕ)) where
   -- the next state and the output of a cell, or the fault in its place
-  abbrev pub entry_line : {O : Type 0} → (O → List ℕ) → Result (Cell O) F → Option (List ℕ)
-  entry_line output (Ok c) = Some (decimal c.next ++ (output c.output ++ codes "\n"))
+  abbrev pub entry_line : {O : Type 0} → (O → Option (List ℕ)) → Result (Cell O) F → Option (List ℕ)
+  entry_line output (Ok c) = option_append (Some (decimal c.next ++ codes " ")) (option_append (output c.output) (Some (codes "\n")))
   entry_line output (Err f) = fault_line (root f) (words f)
 
   abbrev pub check_refusal_line : CheckRefusal F → Option (List ℕ)

@@ -1,141 +1,154 @@
 //! What a script asks of a machine and of its sheet, told line by line.
-use crate::buffers::{Item, buffer, push_all};
+use crate::buffers::{Item, buffer};
 use crate::lines::{push_answer, push_check, push_entry, push_map, push_write};
 use crate::scripts::Script;
 use crate::troubles::Trouble;
 use machine::{Command, Fault, Machine, check};
 use sheet::Sheet;
 use std::fmt;
+use texts::push_each;
 use writing::write_chain;
 
-/// Sizes, the check, and entries: a count, and so many states and inputs.
-fn tell_machine<O: Item, F: Fault + fmt::Display, M: Machine<Out = O, Fault = F>>(
-    machine: &M,
-    script: &mut Script,
-    text: &mut String,
-) -> Result<(), Trouble> {
-    let states = machine.states();
-    let inputs = machine.inputs();
-    let start = machine.start();
-    write!(text, "states {states} inputs {inputs} start {start}\n")?;
-    push_check(text, &check(machine))?;
-    let count = script.number();
-    for _ in 0..count {
-        let s = script.number();
-        let i = script.number();
-        push_entry(text, &machine.entry(s, i))?;
-    }
-    Ok(())
+/// A script that is played: what is left to read of it, and the text of what was answered so far.
+#[derive(Drop)]
+pub(crate) struct Play<'a> {
+    pub(crate) script: Script<'a>,
+    pub(crate) text: String,
 }
 
-/// Written as a chain into buffers: a count, and so many lengths.
-fn tell_writes<F: Fault + fmt::Display, M: Machine<Out = Command, Fault = F>>(
-    machine: &M,
-    script: &mut Script,
-    text: &mut String,
-) -> Result<(), Trouble> {
-    let count = script.number();
-    for _ in 0..count {
-        let room = script.number();
-        let mut out = buffer::<u8>(script.heap(), room)?;
-        push_write(text, &write_chain(machine, &mut out))?;
-        push_all(text, &out)?;
-        write!(text, "\n")?;
-    }
-    Ok(())
+/// A call on a sheet.
+#[derive(Clone, Copy)]
+enum Call {
+    Round,
+    Settle,
+    Pair,
+    Map,
+    Word,
+    Table,
 }
 
-fn tell_map<M: Machine>(
-    sheet: &Sheet<M>,
-    script: &mut Script,
-    text: &mut String,
-) -> Result<(), Trouble> {
-    let mut out = buffer::<u16>(script.heap(), script.number())?;
-    push_map(text, sheet.map(&mut out))?;
-    push_all(text, &out)?;
-    write!(text, "\n")?;
-    Ok(())
-}
-
-fn tell_word<M: Machine>(
-    sheet: &Sheet<M>,
-    script: &mut Script,
-    text: &mut String,
-) -> Result<(), Trouble> {
-    let s = script.number();
-    let t = script.number();
-    let mut out = buffer::<u16>(script.heap(), script.number())?;
-    push_answer(text, &sheet.word(s, t, &mut out))?;
-    push_all(text, &out)?;
-    write!(text, "\n")?;
-    Ok(())
-}
-
-fn tell_table<O: Item, M: Machine<Out = O>>(
-    sheet: &Sheet<M>,
-    script: &mut Script,
-    text: &mut String,
-) -> Result<(), Trouble> {
-    let mut next = buffer::<u16>(script.heap(), script.number())?;
-    let mut outputs = buffer::<O>(script.heap(), script.number())?;
-    push_answer(text, &sheet.table(&mut next, &mut outputs))?;
-    push_all(text, &next)?;
-    write!(text, "\n")?;
-    push_all(text, &outputs)?;
-    write!(text, "\n")?;
-    Ok(())
-}
-
-/// One call, by its number in the script.
-fn tell_call<O: Item, M: Machine<Out = O>>(
-    sheet: &mut Sheet<M>,
-    script: &mut Script,
-    text: &mut String,
-) -> Result<(), Trouble> {
-    match script.number() {
-        0 => Ok(push_answer(text, &sheet.round())?),
-        1 => Ok(push_answer(text, &sheet.settle())?),
-        2 => {
-            let s = script.number();
-            let t = script.number();
-            Ok(push_answer(text, &sheet.pair(s, t))?)
+/// A call by its number in a script.
+impl From<u16> for Call {
+    fn from(number: u16) -> Call {
+        match number {
+            0 => Call::Round,
+            1 => Call::Settle,
+            2 => Call::Pair,
+            3 => Call::Map,
+            4 => Call::Word,
+            _ => Call::Table,
         }
-        3 => tell_map(sheet, script, text),
-        4 => tell_word(sheet, script, text),
-        _ => tell_table(sheet, script, text),
     }
 }
 
-/// A sheet, and a count of calls on it.
-fn tell_sheet<O: Item, M: Machine<Out = O> + Drop>(
-    machine: M,
-    script: &mut Script,
-    text: &mut String,
-) -> Result<(), Trouble> {
-    let mut sheet = Sheet::open(machine);
-    let count = script.number();
-    for _ in 0..count {
-        tell_call(&mut sheet, script, text)?;
+impl Play<'_> {
+    /// A line with what a buffer holds.
+    pub(crate) fn tell_items<T: fmt::Display>(&mut self, items: &[T]) -> Result<(), Trouble> {
+        push_each(&mut self.text, items)?;
+        Ok(write!(self.text, "\n")?)
     }
-    Ok(())
-}
 
-/// A machine of any output kind, and its sheet.
-pub(crate) fn tell<O: Item, F: Fault + fmt::Display, M: Machine<Out = O, Fault = F> + Drop>(
-    machine: M,
-    script: &mut Script,
-    text: &mut String,
-) -> Result<(), Trouble> {
-    tell_machine(&machine, script, text)?;
-    tell_sheet(machine, script, text)
-}
+    /// Sizes, the check, and entries: a count, and so many states and inputs.
+    fn tell_machine<O: Item, F: Fault + fmt::Display, M: Machine<Out = O, Fault = F>>(
+        &mut self,
+        machine: &M,
+    ) -> Result<(), Trouble> {
+        let states = machine.states();
+        let inputs = machine.inputs();
+        let start = machine.start();
+        write!(self.text, "states {states} inputs {inputs} start {start}\n")?;
+        push_check(&mut self.text, &check(machine))?;
+        for _ in 0..self.script.number() {
+            let s = self.script.number();
+            let i = self.script.number();
+            push_entry(&mut self.text, &machine.entry(s, i))?;
+        }
+        Ok(())
+    }
 
-/// A machine with commands, which can also be written as a chain.
-pub(crate) fn tell_commands<F: Fault + fmt::Display, M: Machine<Out = Command, Fault = F> + Drop>(
-    machine: M,
-    script: &mut Script,
-    text: &mut String,
-) -> Result<(), Trouble> {
-    tell_writes(&machine, script, text)?;
-    tell(machine, script, text)
+    /// Written as a chain into buffers: a count, and so many lengths.
+    fn tell_writes<F: Fault + fmt::Display, M: Machine<Out = Command, Fault = F>>(
+        &mut self,
+        machine: &M,
+    ) -> Result<(), Trouble> {
+        for _ in 0..self.script.number() {
+            let mut out = buffer::<u8>(self.script.heap(), self.script.number())?;
+            push_write(&mut self.text, &write_chain(machine, &mut out))?;
+            self.tell_items(&out)?;
+        }
+        Ok(())
+    }
+
+    fn tell_map<M: Machine>(&mut self, sheet: &Sheet<M>) -> Result<(), Trouble> {
+        let mut out = buffer::<u16>(self.script.heap(), self.script.number())?;
+        push_map(&mut self.text, sheet.map(&mut out))?;
+        self.tell_items(&out)
+    }
+
+    fn tell_word<M: Machine>(&mut self, sheet: &Sheet<M>) -> Result<(), Trouble> {
+        let s = self.script.number();
+        let t = self.script.number();
+        let mut out = buffer::<u16>(self.script.heap(), self.script.number())?;
+        push_answer(&mut self.text, &sheet.word(s, t, &mut out))?;
+        self.tell_items(&out)
+    }
+
+    fn tell_table<O: Item, M: Machine<Out = O>>(
+        &mut self,
+        sheet: &Sheet<M>,
+    ) -> Result<(), Trouble> {
+        let mut next = buffer::<u16>(self.script.heap(), self.script.number())?;
+        let mut outputs = buffer::<O>(self.script.heap(), self.script.number())?;
+        push_answer(&mut self.text, &sheet.table(&mut next, &mut outputs))?;
+        self.tell_items(&next)?;
+        self.tell_items(&outputs)
+    }
+
+    fn tell_call<O: Item, M: Machine<Out = O>>(
+        &mut self,
+        sheet: &mut Sheet<M>,
+    ) -> Result<(), Trouble> {
+        match Call::from(self.script.number()) {
+            Call::Round => Ok(push_answer(&mut self.text, &sheet.round())?),
+            Call::Settle => Ok(push_answer(&mut self.text, &sheet.settle())?),
+            Call::Pair => {
+                let s = self.script.number();
+                let t = self.script.number();
+                Ok(push_answer(&mut self.text, &sheet.pair(s, t))?)
+            }
+            Call::Map => self.tell_map(sheet),
+            Call::Word => self.tell_word(sheet),
+            Call::Table => self.tell_table(sheet),
+        }
+    }
+
+    /// A sheet, and a count of calls on it.
+    fn tell_sheet<O: Item, M: Machine<Out = O> + Drop>(
+        &mut self,
+        machine: M,
+    ) -> Result<(), Trouble> {
+        let mut sheet = Sheet::open(machine);
+        for _ in 0..self.script.number() {
+            self.tell_call(&mut sheet)?;
+        }
+        Ok(())
+    }
+
+    /// A machine of any output kind, and its sheet.
+    pub(crate) fn tell<O: Item, F: Fault + fmt::Display, M: Machine<Out = O, Fault = F> + Drop>(
+        &mut self,
+        machine: M,
+    ) -> Result<(), Trouble> {
+        self.tell_machine(&machine)?;
+        self.tell_sheet(machine)
+    }
+
+    /// A machine with commands, which can also be written as a chain.
+    pub(crate) fn tell_commands<
+        F: Fault + fmt::Display,
+        M: Machine<Out = Command, Fault = F> + Drop,
+    >(&mut self, machine: M) -> Result<(), Trouble> {
+        self.tell_writes(&machine)?;
+        self.tell(machine)
+    }
 }

@@ -6,7 +6,7 @@ ghost use Rattle.std.specs.Prelude.{◌≡◌, ◌≤◌, ◌++◌, length, drop
 ghost use Rattle.machine.specs.Wheels.{hundredths};
 ghost use Rattle.bridge.specs.Handed.{Handed};
 
-use crate::piles::tell_script;
+use crate::piles::play_script;
 use machine::outputs::to_hundredths;
 use std::alloc::Global;
 
@@ -16,7 +16,7 @@ use std::alloc::Global;
 pub extern "C" fn bridge_play(heap: Global, script: &[u16], out: &mut [u8]) -> usize
     ensures { Handed result out.old out.new }
 {
-    match tell_script(heap, script) {
+    match play_script(heap, script) {
         Ok(text) => hand_over(text.as_bytes(), out),
         Err(_) => usize::MAX,
     }
@@ -38,18 +38,9 @@ fn hand_over(bytes: &[u8], out: &mut [u8]) -> usize
 {
     let count = bytes.len();
     if count <= out.len() {
-        copy_front(bytes, out);
+        out[..count].copy_from_slice(bytes);
     }
     count
-}
-
-fn copy_front(bytes: &[u8], out: &mut [u8])
-    requires { length bytes.now ≤ length out.old }
-    ensures { out.new ≡ bytes.now ++ drop (length bytes.now) out.old }
-{
-    for i in 0..bytes.len() {
-        out[i] = bytes[i];
-    }
 }
 
 mod buffers;

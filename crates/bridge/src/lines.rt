@@ -3,7 +3,6 @@ ghost use Rattle.std.specs.Prelude.{◌≡◌, ◌++◌, string_bytes, OnOk};
 ghost use Rattle.std.specs.Fmt.{AppendsText};
 ghost use Rattle.bridge.specs.Lines.{answer_line, check_line, entry_line, fault_line, map_line, check_refusal_line, written_line};
 
-use crate::buffers::Item;
 use machine::{Cell, CheckRefusal, Fault};
 use sheet::Refusal;
 use std::alloc::AllocError;
@@ -18,19 +17,14 @@ fn push_fault<F: Fault + fmt::Display>(text: &mut String, fault: &F) -> Result<(
     write!(text, "cause {cause}, {fault}\n")
 }
 
-pub(crate) fn push_entry<O: Item, F: Fault + fmt::Display>(
+pub(crate) fn push_entry<O: fmt::Display, F: Fault + fmt::Display>(
     text: &mut String,
     entry: &Result<Cell<O>, F>,
 ) -> Result<(), AllocError>
-    ensures { OnOk result (AppendsText (string_bytes text.old) (string_bytes text.new) (entry_line F.Fault.root F.Display.output O.Item.words entry.now)) }
+    ensures { OnOk result (AppendsText (string_bytes text.old) (string_bytes text.new) (entry_line F.Fault.root F.Display.output O.Display.output entry.now)) }
 {
     match entry {
-        Ok(cell) => {
-            let next = cell.next;
-            write!(text, "{next}")?;
-            cell.output.push(text)?;
-            write!(text, "\n")
-        }
+        Ok(Cell { next, output }) => write!(text, "{next} {output}\n"),
         Err(fault) => push_fault(text, fault),
     }
 }

@@ -1,31 +1,57 @@
 //! A script: numbers, read one after the other.
-ghost use Rattle.std.specs.Prelude.{◌≡◌, IfOk, slice_index};
+ghost use Rattle.std.specs.Prelude.{◌≡◌, drop, slice_index};
 
 use crate::troubles::Trouble;
 use forms::{Chain, Grid, Ring};
-use machine::{Command, WheelMove};
+use machine::{Command, Output, WheelMove};
 use sheet::Table;
 use std::alloc::{AllocError, Global};
+use std::slice;
 use tables::open_table;
 
-/// Numbers, and how many of them have been read.
+/// The numbers that are left to read.
 #[derive(Drop)]
-pub(crate) struct Script {
+pub(crate) struct Script<'a> {
     heap: Global,
-    numbers: Vec<u16>,
-    read: usize,
+    numbers: slice::Iter<'a, u16>,
 }
 
-impl Script {
-    pub(crate) fn new(heap: Global, numbers: &[u16]) -> Result<Script, AllocError>
-        ensures { IfOk result (λ s. (s.numbers.items ≡ numbers.now) × (s.read ≡ 0)) }
+/// What a script has lists of.
+pub(crate) trait Scripted: Drop {
+    fn read(script: &mut Script<'_>) -> Self;
+}
+
+impl Scripted for u16 {
+    fn read(script: &mut Script<'_>) -> u16 {
+        script.number()
+    }
+}
+
+impl Scripted for Command {
+    fn read(script: &mut Script<'_>) -> Command {
+        Command {
+            number: script.number(),
+        }
+    }
+}
+
+impl Scripted for WheelMove {
+    fn read(script: &mut Script<'_>) -> WheelMove {
+        let lift = script.offset();
+        let gamma = script.offset();
+        let gain = script.offset();
+        WheelMove { lift, gamma, gain }
+    }
+}
+
+impl<'a> Script<'a> {
+    pub(crate) fn new(heap: Global, numbers: &'a [u16]) -> Script<'a>
+        ensures { result.numbers.rest.now ≡ numbers.now }
     {
-        let numbers = Vec::from_slice(heap, numbers)?;
-        Ok(Script {
+        Script {
             heap,
-            numbers,
-            read: 0,
-        })
+            numbers: numbers.iter(),
+        }
     }
 
     pub(crate) fn heap(&self) -> Global
@@ -36,70 +62,35 @@ impl Script {
 
     /// The next number; 0 past the end.
     pub(crate) fn number(&mut self) -> u16
-        ensures value { result ≡ slice_index self.old.numbers.items self.old.read }
-        ensures same { self.new.numbers ≡ self.old.numbers }
+        ensures value { result ≡ slice_index self.old.numbers.rest.now 0 }
+        ensures rest { self.new.numbers.rest.now ≡ drop 1 self.old.numbers.rest.now }
     {
-        if self.read >= self.numbers.len() {
-            return 0;
-        }
-        let number = self.numbers[self.read];
-        self.read += 1;
-        number
+        self.numbers.next().copied().unwrap_or(0)
     }
 
-    /// A count, and so many numbers.
-    pub(crate) fn list(&mut self) -> Result<Vec<u16>, AllocError> {
-        let mut list = Vec::new(self.heap);
-        let count = self.number();
-        for _ in 0..count {
-            list.push(self.number())?;
+    /// A number, signed.
+    fn offset(&mut self) -> i16 {
+        self.number().cast_signed()
+    }
+
+    /// A count, and so many items.
+    pub(crate) fn list<T: Scripted>(&mut self) -> Result<Vec<T>, AllocError> {
+        let mut items = Vec::new(self.heap);
+        for _ in 0..self.number() {
+            items.push(T::read(self))?;
         }
-        Ok(list)
+        Ok(items)
     }
 
     /// A count, and so many bytes, two to a number, the low one first.
     pub(crate) fn bytes(&mut self) -> Result<Vec<u8>, AllocError> {
         let mut bytes = Vec::new(self.heap);
         let count = self.number();
-        for _ in 0..count / 2 {
-            let [low, high] = self.number().to_le_bytes();
-            bytes.push(low)?;
-            bytes.push(high)?;
+        for _ in 0..count.div_ceil(2) {
+            bytes.extend_from_slice(&self.number().to_le_bytes())?;
         }
-        if count % 2 == 1 {
-            let [low, _] = self.number().to_le_bytes();
-            bytes.push(low)?;
-        }
+        bytes.truncate(count as usize);
         Ok(bytes)
-    }
-
-    /// A count, and so many commands.
-    fn commands(&mut self) -> Result<Vec<Command>, AllocError> {
-        let mut commands = Vec::new(self.heap);
-        let count = self.number();
-        for _ in 0..count {
-            let number = self.number();
-            commands.push(Command { number })?;
-        }
-        Ok(commands)
-    }
-
-    /// A number, signed.
-    fn offset(&mut self) -> i16 {
-        i16::from_le_bytes(self.number().to_le_bytes())
-    }
-
-    /// A count, and so many wheel moves.
-    fn moves(&mut self) -> Result<Vec<WheelMove>, AllocError> {
-        let mut moves = Vec::new(self.heap);
-        let count = self.number();
-        for _ in 0..count {
-            let lift = self.offset();
-            let gamma = self.offset();
-            let gain = self.offset();
-            moves.push(WheelMove { lift, gamma, gain })?;
-        }
-        Ok(moves)
     }
 
     pub(crate) fn ring(&mut self) -> Result<Ring, Trouble> {
@@ -110,21 +101,12 @@ impl Script {
         Ok(Chain::open(self.bytes()?)?)
     }
 
-    pub(crate) fn grid(&mut self) -> Result<Grid<Command>, Trouble> {
+    pub(crate) fn grid<O: Output + Scripted>(&mut self) -> Result<Grid<O>, Trouble> {
         let states = self.number();
         let inputs = self.number();
         let start = self.number();
         let next = self.list()?;
-        let outputs = self.commands()?;
-        Ok(Grid::open(states, inputs, start, next, outputs)?)
-    }
-
-    pub(crate) fn wheels(&mut self) -> Result<Grid<WheelMove>, Trouble> {
-        let states = self.number();
-        let inputs = self.number();
-        let start = self.number();
-        let next = self.list()?;
-        let outputs = self.moves()?;
+        let outputs = self.list()?;
         Ok(Grid::open(states, inputs, start, next, outputs)?)
     }
 
@@ -134,7 +116,7 @@ impl Script {
         let inputs = self.number();
         let start = self.number();
         let next = self.list()?;
-        let outputs = self.commands()?;
+        let outputs = self.list()?;
         Ok(open_table(Table { classes, start }, inputs, next, outputs)?)
     }
 }

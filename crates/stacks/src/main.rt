@@ -48,19 +48,24 @@ fn report<F: Fault + fmt::Display, M: Machine<Fault = F>>(
             let start = pile.start();
             println!(rt; "{name}: sound, states {states} inputs {inputs} start {start}")
         }
-        Err(CheckRefusal::Misfit(fault)) => {
-            let cause = fault.cause().number();
-            println!(rt; "{name}: refused 1 cause {cause}, {fault}")
-        }
-        Err(
-            CheckRefusal::Hole {
-                state,
-                input,
-                fault,
-            },
-        ) => {
-            let cause = fault.cause().number();
-            println!(rt; "{name}: refused 2 state {state} input {input} cause {cause}, {fault}")
+        Err(refusal) => {
+            let number = refusal.number();
+            match refusal {
+                CheckRefusal::Misfit(fault) => {
+                    let cause = fault.cause().number();
+                    println!(rt; "{name}: refused {number} cause {cause}, {fault}")
+                }
+                CheckRefusal::Hole {
+                    state,
+                    input,
+                    fault,
+                } => {
+                    let cause = fault.cause().number();
+                    println!(rt;
+                        "{name}: refused {number} state {state} input {input} cause {cause}, {fault}"
+                    )
+                }
+            }
         }
     }
 }
