@@ -2,8 +2,8 @@
 #![tactic(auto)]
 
 ghost use Rattle.std.specs.Prelude.{◌≡◌, false, List};
-ghost use Rattle.sheet.specs.Kept.{Kept};
-ghost use Rattle.sheet.specs.Stage.{stage_at, stage_of};
+ghost use Rattle.sheet.specs.Stage.{stage_at};
+ghost use Rattle.sheet.specs.Standing.{stage_of};
 ghost use Rattle.runs.specs.Entries.{Entry, entry_of, buffers, Noted, stage_by};
 ghost use Rattle.runs.specs.Right.{Right};
 ghost use Rattle.runs.specs.Runs.{Played};
@@ -58,9 +58,8 @@ fn ask<M: Machine>(
     outputs: &mut [M::Out],
 ) -> Answer
     ensures same { sheet.new.machine ≡ sheet.old.machine }
-    ensures kept { Kept M.Machine M.Out.Output sheet.old → Kept M.Machine M.Out.Output sheet.new }
-    ensures stage { stage_of M.Machine M.Out.Output sheet.new ≡ stage_by result (stage_of M.Machine M.Out.Output sheet.old) }
-    ensures right { Kept M.Machine M.Out.Output sheet.old → Right M.Out.Output.key (M.Machine.means sheet.old.machine).entry (stage_of M.Machine M.Out.Output sheet.old) call (buffers numbers.old next.old outputs.old) result (buffers numbers.new next.new outputs.new) }
+    ensures stage { stage_of sheet.new ≡ stage_by result (stage_of sheet.old) }
+    ensures right { Right M.Out.Output.key (M.Machine.means sheet.old.machine).entry (stage_of sheet.old) call (buffers numbers.old next.old outputs.old) result (buffers numbers.new next.new outputs.new) }
 {
     match call {
         Call::Round => Answer::Round(sheet.round()),

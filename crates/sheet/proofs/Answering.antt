@@ -1,6 +1,7 @@
 -- Which way a reply goes.
-use Rattle.std.proofs.Common.{◌≡◌, ℕ, suc, ◌<◌, ◌≤◌, Bool, true, false, ◌&&◌, ltb, Ok, Err, Result, sym, ap, ◌∙◌, arith}
-use Rattle.std.proofs.lemmas.Bool.{cond-true, cond-false, and_parts, and_from, lt-ltb, le-ltb, le-leb, lt-leb, ltb-true, eq-eqb, ne_eqb}
+use Rattle.std.proofs.Common.{◌≡◌, ℕ, suc, ◌<◌, ◌≤◌, Bool, true, false, cond, not, ◌&&◌, ltb, leb, Some, None, Ok, Err, Option, Result, sym, ap, ◌∙◌, arith}
+use Rattle.std.specs.Option.{ok_or}
+use Rattle.std.proofs.lemmas.Bool.{cond-true, cond-false, and_parts, and_from, lt-ltb, le-ltb, leb-true, le-leb, ltb-true, eq-eqb, ne_eqb}
 use Rattle.mealy.specs.Partitions.{block_count, Settled}
 use Rattle.mealy.proofs.Below.{by_test}
 use Rattle.mealy.proofs.Rounds.{settled_from}
@@ -9,30 +10,82 @@ use Rattle.sheet.specs.declared.answers.Pair.TheVariants as pairs
 use Rattle.sheet.specs.declared.answers.Refusal.{Refusal}
 use Rattle.sheet.specs.declared.answers.Refusal.TheVariants as refusal
 use Rattle.sheet.specs.declared.answers.Round.TheVariants as round
-use Rattle.sheet.specs.Replies.{when_sound, when_open, when_states, when_room, settles_in, round_reply, pair_at, word_at}
+use Rattle.sheet.specs.Replies.{when_sound, when_open, when_states, when_room, settles_in, round_reply, if_taken, pair_at, word_at}
 use Rattle.sheet.specs.declared.answers.TableBuffer.TheVariants as buffer
 use Rattle.sheet.specs.Stage.{Stage, if_ok}
 use Rattle.sheet.specs.Tables.{cell_count, table_of, table_when}
 
-module _ {A : Type 0} (t : Stage) (x : Result A Refusal) where
-  -- An unsound machine is refused, and a sound one heard.
-  pub unsound : t.sound ≡ false → Err refusal.Unsound ≡ when_sound t x
-  unsound e = sym (cond-false t.sound x (Err refusal.Unsound) e)
+-- What is refused, or let through, of one answer is of every other.
+module _ {A B : Type 0} (y : A) (x : Result B Refusal) (r q : Refusal) where
+  shut_first : (b : Bool) (e : Refusal) → Err e ≡ cond b (Ok y) (Err r) → Err e ≡ cond b x (Err r)
+  shut_first true e h = absurd (cc h)
+  shut_first false e h = cc h
 
+  shut_second : (b d : Bool) (e : Refusal) → Err e ≡ cond b (cond d (Ok y) (Err q)) (Err r) → Err e ≡ cond b (cond d x (Err q)) (Err r)
+  shut_second true true e h = absurd (cc h)
+  shut_second true false e h = cc h
+  shut_second false d e h = cc h
+
+  shut_third : (b d : Bool) (e : Refusal) → Err e ≡ cond b (cond d (Err q) (Ok y)) (Err r) → Err e ≡ cond b (cond d (Err q) x) (Err r)
+  shut_third true true e h = cc h
+  shut_third true false e h = absurd (cc h)
+  shut_third false d e h = cc h
+
+module _ {A : Type 0} (y z : A) (r q : Refusal) where
+  pass_first : (b : Bool) → Ok z ≡ cond b (Ok y) (Err r) → b ≡ true
+  pass_first true h = cc
+  pass_first false h = absurd (cc h)
+
+  pass_second : (b d : Bool) → Ok z ≡ cond b (cond d (Ok y) (Err q)) (Err r) → (b ≡ true) × (d ≡ true) × (z ≡ y)
+  pass_second true true h = (cc, cc, cc h)
+  pass_second true false h = absurd (cc h)
+  pass_second false d h = absurd (cc h)
+
+  pass_third : (b d : Bool) → Ok z ≡ cond b (cond d (Err q) (Ok y)) (Err r) → (b ≡ true) × (d ≡ false)
+  pass_third true true h = absurd (cc h)
+  pass_third true false h = (cc, cc)
+  pass_third false d h = absurd (cc h)
+
+module _ {A B : Type 0} (t : Stage) (y : A) (x : Result B Refusal) (e : Refusal) where
+  -- A call is refused as any on a sheet, as one that takes rounds, or as one on two states,
+  pub unsound : Err e ≡ when_sound t (Ok y) → Err e ≡ when_sound t x
+  unsound = shut_first y x refusal.Unsound refusal.Unsound t.sound e
+
+  pub closed : Err e ≡ when_sound t (when_open t (Ok y)) → Err e ≡ when_sound t (when_open t x)
+  closed = shut_third y x refusal.Unsound refusal.AlreadySettled t.sound t.settled e
+
+  pub no_states : (s u : ℕ) → Err e ≡ when_sound t (when_states t s u (Ok y)) → Err e ≡ when_sound t (when_states t s u x)
+  no_states s u = shut_second y x refusal.Unsound refusal.NoSuchState t.sound (ltb s t.machine.states && ltb u t.machine.states) e
+
+module _ {A : Type 0} (t : Stage) (y z : A) where
+  -- and none is let through without cause.
+  pub sound_so : Ok z ≡ when_sound t (Ok y) → t.sound ≡ true
+  sound_so = pass_first y z refusal.Unsound refusal.Unsound t.sound
+
+  pub open_so : Ok z ≡ when_sound t (when_open t (Ok y)) → (t.sound ≡ true) × (t.settled ≡ false)
+  open_so = pass_third y z refusal.Unsound refusal.AlreadySettled t.sound t.settled
+
+  pub states_so : (s u : ℕ) → Ok z ≡ when_sound t (when_states t s u (Ok y))
+      → (t.sound ≡ true) × (s < t.machine.states) × (u < t.machine.states) × (z ≡ y)
+  states_so s u h =
+      let n : ℕ = t.machine.states in
+      let is = pass_second y z refusal.Unsound refusal.NoSuchState t.sound (ltb s n && ltb u n) h in
+      let both = and_parts (ltb s n) (ltb u n) is.1 in
+      (is.0, ltb-true s n both.0, ltb-true u n both.1, is.2)
+
+module _ {A : Type 0} (t : Stage) (x : Result A Refusal) where
+  -- A sound machine is heard.
   pub heard : t.sound ≡ true → x ≡ when_sound t x
   heard e = sym (cond-true t.sound x (Err refusal.Unsound) e)
 
-  -- A settled sheet takes no round, and an open one does.
-  pub over : t.settled ≡ true → Err refusal.AlreadySettled ≡ when_open t x
-  over e = sym (cond-true t.settled (Err refusal.AlreadySettled) x e)
-
+  -- A sheet that is not settled takes a round.
   pub still_open : t.settled ≡ false → x ≡ when_open t x
   still_open e = sym (cond-false t.settled (Err refusal.AlreadySettled) x e)
 
   -- Two numbers are states, or one is not.
-  pub no_states : (s u : ℕ) → ((s < t.machine.states) × (u < t.machine.states) → ⊥)
+  pub others : (s u : ℕ) → ((s < t.machine.states) × (u < t.machine.states) → ⊥)
       → Err refusal.NoSuchState ≡ when_states t s u x
-  no_states s u not-both =
+  others s u not-both =
       let n : ℕ = t.machine.states in
       sym (cond-false (ltb s n && ltb u n) x (Err refusal.NoSuchState)
       (by_test (ltb s n && ltb u n)
@@ -67,18 +120,39 @@ module _ (t : Stage) (so : t.sound ≡ true) (fresh : t.settled ≡ false) where
       sym (cond-false (settles_in m t.rounds) (Ok (round.Settled (block_count m t.rounds))) _ (ne_eqb _ _ (λ e. goes_on (settled_from m t.rounds (omega (arith, e))))))
       ∙ still_open t _ fresh ∙ heard t _ so
 
+-- What `ok_or` says of an option.
+pub some_so : (o : Option ℕ) (e : Refusal) (j : ℕ) → Ok j ≡ ok_or o e → Some j ≡ o
+some_so (Some x) e j h = cc h
+some_so None e j h = absurd (cc h)
+
+pub none_so : (o : Option ℕ) (e f : Refusal) → Err f ≡ ok_or o e → (None ≡ o) × (f ≡ e)
+none_so (Some x) e f h = absurd (cc h)
+none_so None e f h = (cc, cc h)
+
 -- Two states that have parted by round r, or have not.
-pub apart_at_lem : (r j : ℕ) (done : Bool) → j ≤ r → pairs.Apart j ≡ pair_at r done j
-apart_at_lem r j done l = sym (cond-true _ _ _ (le-leb j r l))
+pub taken_is : (r j x : ℕ) → Some x ≡ if_taken r j → (x ≡ j) × (j ≤ r)
+taken_is r j x h =
+    by_test (leb j r) (λ e. (cc (h, cond-true (leb j r) (Some j) None e), leb-true j r e)) (λ e. absurd (cc (h, cond-false (leb j r) (Some j) None e)))
 
-pub equivalent_at : (r j : ℕ) (done : Bool) → r < j → done ≡ true → pairs.Equivalent ≡ pair_at r done j
-equivalent_at r j done l e = sym (cond-false _ _ _ (lt-leb j r l) ∙ cond-true _ _ _ e)
+apart_by : (b : Bool) (done : Bool) (j x : ℕ) → Some x ≡ cond b (Some j) None → pairs.Apart x ≡ cond b (pairs.Apart j) (cond done pairs.Equivalent pairs.Together)
+apart_by true done j x h = cc h
+apart_by false done j x h = absurd (cc h)
 
-pub together_at : (r j : ℕ) (done : Bool) → r < j → done ≡ false → pairs.Together ≡ pair_at r done j
-together_at r j done l e = sym (cond-false _ _ _ (lt-leb j r l) ∙ cond-false _ _ _ e)
+none_by : {A : Type 0} (b : Bool) (j : ℕ) (x y : A) → None ≡ cond b (Some j) None → y ≡ cond b x y
+none_by true j x y h = absurd (cc h)
+none_by false j x y h = cc
 
-pub not_apart_at : (r size j : ℕ) → r < j → Err refusal.NotApart ≡ word_at r size j
-not_apart_at r size j l = sym (cond-false _ _ _ (lt-leb j r l))
+pub apart_at_lem : (r j x : ℕ) (done : Bool) → Some x ≡ if_taken r j → pairs.Apart x ≡ pair_at r done j
+apart_at_lem r j x done = apart_by (leb j r) done j x
+
+pub equivalent_at : (r j : ℕ) (done : Bool) → None ≡ if_taken r j → done ≡ true → pairs.Equivalent ≡ pair_at r done j
+equivalent_at r j done h e = sym (cond-true _ _ _ e) ∙ none_by (leb j r) j _ _ h
+
+pub together_at : (r j : ℕ) (done : Bool) → None ≡ if_taken r j → done ≡ false → pairs.Together ≡ pair_at r done j
+together_at r j done h e = sym (cond-false _ _ _ e) ∙ none_by (leb j r) j _ _ h
+
+pub not_apart_at : (r size j : ℕ) → None ≡ if_taken r j → Err refusal.NotApart ≡ word_at r size j
+not_apart_at r size j = none_by (leb j r) j _ _
 
 pub short_at : (r size j : ℕ) → j ≤ r → size < j → Err (refusal.Short j) ≡ word_at r size j
 short_at r size j l b = short size j (Ok j) b ∙ sym (cond-true _ _ _ (le-leb j r l))

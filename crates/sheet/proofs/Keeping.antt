@@ -1,109 +1,50 @@
 -- What a sheet keeps: fresh, after a round that settled, and after one that split; and what that says of its machine.
-use Rattle.std.proofs.Common.{◌≡◌, ℕ, suc, ◌+◌, ◌<◌, ◌≤◌, true, false, cond, not, eqb, List, [], get_or, set, replicate, ℤ, sym, ap, ◌∙◌, subst, ⊎_elim, add-one, arith}
-use Rattle.std.proofs.lemmas.Bool.{true≢false, cases_eq, cases_Bool, cond-true, cond-false, not-true}
+use Rattle.std.proofs.Common.{◌≡◌, ℕ, suc, ◌+◌, ◌<◌, ◌≤◌, Bool, true, false, not, eqb, List, [], get_or, take, set, length, replicate, ltb, leb, cond, Some, None, ℤ, sym, refl, ap, ◌∙◌, subst, ⊎_elim, add-one, arith}
+use Rattle.std.specs.List.{position, position_or_len}
+use Rattle.std.proofs.lemmas.Bool.{true≢false, cases_eq, cases_Bool, cond-true, cond-false, not-true, lt-ltb, le-ltb, leb-true, leb-false}
+use Rattle.std.proofs.lemmas.List.{length-take-le, get_or-take}
+use Rattle.std.proofs.lemmas.List.FromFn.{length-map-range_with_len}
+use Rattle.std.proofs.lemmas.List.Sums.{position_or_len_is}
 use Rattle.machine.specs.Meaning as meaning
 use Rattle.machine.specs.Meaning.{Meaning, Sizes}
 use Rattle.machine.specs.Theory.{mealy_of, sound_by}
+use Rattle.machine.specs.declared.Machine as machines
+use Rattle.machine.specs.declared.faults.Fault as faults
+use Rattle.machine.specs.declared.outputs.Output as outputs
 use Rattle.machine.proofs.Theory.{few_states, some_state, sound_fits, sound_closed}
-use Rattle.mealy.specs.Below.{lowest}
 use Rattle.mealy.specs.Mealy.{Mealy, Closed}
 use Rattle.mealy.specs.Partitions.{block, block_count, share, parted, Settled}
-use Rattle.mealy.proofs.Below.{lowest_is}
-use Rattle.mealy.proofs.Rounds.{one_block_first}
-use Rattle.rounds.specs.Rows.{row_of, Numbered}
-use Rattle.rounds.proofs.Passes.{lowest_same}
+use Rattle.mealy.proofs.Below.{by_test, lowest_is}
+use Rattle.mealy.proofs.Rounds.{one_block_first, settled_from}
+use Rattle.mealy.proofs.Settled.{settled_count}
+use Rattle.rounds.specs.Rows.{row_of, Numbered, Refines}
 use Rattle.rounds.proofs.Refining.{numbers_tell}
 use Rattle.rounds.proofs.Rows.{row_numbered}
 use Rattle.sheet.specs.declared.Sheet.{Sheet}
-use Rattle.sheet.specs.Kept.{KeptAt, Splits, rows_of}
+use Rattle.sheet.specs.Kept.{KeptAt, Splits, row_at, rows_of}
+use Rattle.sheet.specs.Replies.{parted_in}
 use Rattle.sheet.specs.Stage.{Stage, stage_at}
+use Rattle.sheet.specs.Standing.{stage_of}
 use Rattle.sheet.proofs.Rows.{row_is, rows_fresh, rows_more}
-
--- A sheet keeps what a meaning says.
-abbrev pub KeptBy : {M O F : Type 0} → (O → List ℤ) → Meaning O F → Sheet M → Type 0
-KeptBy key m s = KeptAt (stage_at key m s.rounds s.settled) s
 
 -- One more round splits.
 pub splits_more : (m : Mealy) (r : ℕ) → Splits m r → (Settled m r → ⊥) → Splits m (r + 1)
 splits_more m r h e j l z =
     ⊎_elim (λ (y : j ≡ r). e (subst (Settled m) y z)) (λ (y : j ≡ r → ⊥). h j (omega arith) z) (cases_eq j r)
 
-module _ {M O F : Type 0} (key : O → List ℤ) (m : Meaning O F) where
-  -- A fresh sheet keeps what it should.
-  pub kept_fresh : Sizes m → (s : Sheet M) → s.sound ≡ sound_by m → s.settled ≡ false → s.rounds ≡ 0 → s.parts ≡ 1
-      → s.rows ≡ replicate 128 (replicate {A = ℕ} 128 0) → KeptBy key m s
-  kept_fresh sizes s a b c p d = record {
-    sounds = a;
-    rows = d ∙ rows_fresh (mealy_of key m) (few_states m sizes) ∙ ap (rows_of (mealy_of key m)) (sym c);
-    parts = p ∙ sym (⊎_elim
-        (λ (e : sound_by m ≡ true). cond-true _ _ _ e ∙ ap (block_count (mealy_of key m)) c ∙ one_block_first (mealy_of key m) (some_state m e))
-        (λ (e : sound_by m ≡ false). cond-false _ _ _ e) (cases_Bool (sound_by m)));
-    splits = λ _ j h e. omega (arith, c);
-    settles = λ _ e. absurd (true≢false (sym e ∙ b));
-    idle = λ _. (c, b);
-  }
-
-  -- The count of blocks that a sheet of a sound machine keeps.
-  pub parts_are : (s : Sheet M) → KeptBy key m s → sound_by m ≡ true → s.parts ≡ block_count (mealy_of key m) s.rounds
-  parts_are s k e = k.parts ∙ cond-true _ _ _ e
-
-  -- A round that settles changes only that.
-  pub kept_settled : (a b : Sheet M) → KeptBy key m a → sound_by m ≡ true → Settled (mealy_of key m) a.rounds
-      → b.sound ≡ a.sound → b.rounds ≡ a.rounds → b.parts ≡ a.parts → b.rows ≡ a.rows → KeptBy key m b
-  kept_settled a b k t e p q c r = record {
-    sounds = p ∙ k.sounds;
-    rows = r ∙ k.rows ∙ ap (rows_of (mealy_of key m)) (sym q);
-    parts = c ∙ k.parts ∙ ap (λ (x : ℕ). cond (sound_by m) (block_count (mealy_of key m) x) 1) (sym q);
-    splits = λ _. subst (Splits (mealy_of key m)) (sym q) (k.splits t);
-    settles = λ _ _. subst (Settled (mealy_of key m)) (sym q) e;
-    idle = λ f. absurd (true≢false (sym t ∙ f));
-  }
-
-  -- A round that splits takes the next row.
-  pub kept_split : (a b : Sheet M) (row : List ℕ) → KeptBy key m a → sound_by m ≡ true → a.settled ≡ false
-      → a.rounds + 1 < 128 → (Settled (mealy_of key m) a.rounds → ⊥) → row ≡ row_of (mealy_of key m) (suc a.rounds)
-      → b.parts ≡ block_count (mealy_of key m) (suc a.rounds) → b.sound ≡ a.sound → b.settled ≡ a.settled
-      → b.rounds ≡ a.rounds + 1 → b.rows ≡ set a.rows (a.rounds + 1) row → KeptBy key m b
-  kept_split a b row k t f l e v c p n q r =
-      let N : Mealy = mealy_of key m in
-      record {
-        sounds = p ∙ k.sounds;
-        rows =
-            r ∙ ap (λ (x : List (List ℕ)). set x (a.rounds + 1) row) k.rows
-            ∙ ap (λ (x : List ℕ). set (rows_of N a.rounds) (a.rounds + 1) x) (v ∙ ap (row_of N) (sym (add-one a.rounds)))
-            ∙ rows_more N a.rounds l ∙ ap (rows_of N) (sym q);
-        parts = c ∙ ap (block_count N) (sym (add-one a.rounds) ∙ sym q) ∙ sym (cond-true _ _ _ t);
-        splits = λ _. subst (Splits N) (sym q) (splits_more N a.rounds (k.splits t) e);
-        settles = λ _ s. absurd (true≢false (sym s ∙ n ∙ f));
-        idle = λ z. absurd (true≢false (sym t ∙ z));
-      }
-
-  -- The last row taken is that of its partition,
-  pub kept_row : (a : Sheet M) → KeptBy key m a → get_or a.rows a.rounds [] ≡ row_of (mealy_of key m) a.rounds
-  kept_row a k =
-      ap (λ (x : List (List ℕ)). get_or x a.rounds []) k.rows
-      ∙ row_is (mealy_of key m) a.rounds a.rounds (omega arith) (omega (arith, a.early, a.few))
-
-  -- and each row holds the numbers of its partition.
-  pub kept_held : Sizes m → (a : Sheet M) → KeptBy key m a → (j : ℕ) → j ≤ a.rounds
-      → Numbered (mealy_of key m) j (get_or a.rows j [])
-  kept_held sizes a k j l s h =
-      ap (λ (x : List (List ℕ)). get_or (get_or x j []) s 0) k.rows
-      ∙ ap (λ (x : List ℕ). get_or x s 0) (row_is (mealy_of key m) a.rounds j l (omega (arith, a.early, a.few)))
-      ∙ row_numbered (mealy_of key m) (few_states m sizes) j s h
-
-  -- The first row in which two numbers differ is the round in which the states part.
-  pub parted_is : Sizes m → (a : Sheet M) → KeptBy key m a → (s t : ℕ) → s < m.states → t < m.states
-      → lowest (a.rounds + 1) (λ i. not (eqb (get_or (get_or a.rows i []) s 0) (get_or (get_or a.rows i []) t 0)))
-      ≡ parted (mealy_of key m) a.rounds s t
-  parted_is sizes a k s t l b =
-      let N : Mealy = mealy_of key m in
-      lowest_same (a.rounds + 1) _ (λ i. not (share N i s t))
-      (λ i q.
-      ap (λ (x : ℕ). not (eqb x (get_or (get_or a.rows i []) t 0))) (kept_held sizes a k i (omega arith) s l)
-      ∙ ap (λ (x : ℕ). not (eqb (block N i s) x)) (kept_held sizes a k i (omega arith) t b)
-      ∙ ap not (numbers_tell N i s t))
-      ∙ ap (λ (x : ℕ). lowest x (λ i. not (share N i s t))) (add-one a.rounds)
+-- A fresh sheet keeps what it should.
+pub kept_fresh : {O F : Type 0} (key : O → List ℤ) (m : Meaning O F) → Sizes m → (sound : Bool) (rows : List (List ℕ))
+    → sound ≡ sound_by m → rows ≡ replicate 128 (replicate {A = ℕ} 128 0) → KeptAt (stage_at key m 0 false) sound 1 rows
+kept_fresh key m sizes sound rows a d = record {
+  sounds = a;
+  holds = d ∙ rows_fresh (mealy_of key m) (few_states m sizes);
+  counts = sym (⊎_elim
+      (λ (e : sound_by m ≡ true). cond-true _ _ _ e ∙ one_block_first (mealy_of key m) (some_state m e))
+      (λ (e : sound_by m ≡ false). cond-false _ _ _ e) (cases_Bool (sound_by m)));
+  splits = λ _ j h e. omega arith;
+  settles = λ _ e. absurd (true≢false (sym e));
+  idle = λ _. (refl, refl);
+}
 
 -- What a stage says of its machine: where it is sound it is complete, starts at a state, its rounds split,
 -- and a settled one has settled.
@@ -113,15 +54,109 @@ pub record Known (t : Stage) : Type 0 where
   pub splits : t.sound ≡ true → Splits t.machine t.rounds
   pub settles : t.sound ≡ true → t.settled ≡ true → Settled t.machine t.rounds
 
--- That of a sheet which keeps its machine's.
-pub known_of : {M O F : Type 0} (key : O → List ℤ) (m : Meaning O F) → Sizes m → meaning.Closed m → (s : Sheet M)
-    → KeptBy key m s → Known (stage_at key m s.rounds s.settled)
-known_of key m sizes closed s k = record {
-  closes = sound_closed key m closed;
-  starts = λ e. (sound_fits m sizes e).starts;
-  splits = k.splits;
-  settles = k.settles;
-}
+module _ {M O F : Type 0} {g : machines.Ghosts M O F} {o : outputs.Ghosts O} {f : faults.Ghosts F} (s : Sheet M O F g o f) where
+  -- The count of blocks that a sheet of a sound machine keeps.
+  pub counted : (stage_of s).sound ≡ true → s.parts ≡ block_count (stage_of s).machine s.rounds
+  counted so = s.kept.counts ∙ cond-true _ _ _ so
+
+  -- A round that settles changes only that.
+  pub kept_settled : (stage_of s).sound ≡ true → Settled (stage_of s).machine s.rounds
+      → KeptAt (stage_at o.key (g.means s.machine) s.rounds true) s.sound s.parts s.rows
+  kept_settled so e = record {
+    sounds = s.kept.sounds;
+    holds = s.kept.holds;
+    counts = s.kept.counts;
+    splits = s.kept.splits;
+    settles = λ _ _. e;
+    idle = λ z. absurd (true≢false (sym so ∙ z));
+  }
+
+  -- A round that splits takes the next row.
+  pub kept_split : (row : List ℕ) (parts : ℕ) → (stage_of s).sound ≡ true → s.rounds + 1 < 128
+      → (Settled (stage_of s).machine s.rounds → ⊥) → row ≡ row_of (stage_of s).machine (suc s.rounds)
+      → parts ≡ block_count (stage_of s).machine (suc s.rounds)
+      → KeptAt (stage_at o.key (g.means s.machine) (s.rounds + 1) s.settled) s.sound parts (set s.rows (s.rounds + 1) row)
+  kept_split row parts so l e v c =
+      let N : Mealy = (stage_of s).machine in
+      let r : ℕ = s.rounds in
+      record {
+        sounds = s.kept.sounds;
+        holds =
+            ap (λ (x : List (List ℕ)). set x (r + 1) row) s.kept.holds
+            ∙ ap (λ (x : List ℕ). set (rows_of N r) (r + 1) x) (v ∙ ap (row_of N) (sym (add-one r)))
+            ∙ rows_more N r l;
+        counts = c ∙ ap (block_count N) (sym (add-one r)) ∙ sym (cond-true _ _ _ so);
+        splits = λ _. splits_more N r (s.kept.splits so) e;
+        settles = λ _ z. absurd (e (s.kept.settles so z));
+        idle = λ z. absurd (true≢false (sym so ∙ z));
+      }
+
+  -- The last row taken is that of its partition,
+  pub last_row : get_or s.rows s.rounds [] ≡ row_of (stage_of s).machine s.rounds
+  last_row =
+      ap (λ (x : List (List ℕ)). get_or x s.rounds []) s.kept.holds
+      ∙ row_is (stage_of s).machine s.rounds s.rounds (omega arith) (omega (arith, s.early, s.few))
+
+  -- and each row holds the numbers of its partition.
+  pub held : Sizes (g.means s.machine) → (j : ℕ) → j ≤ s.rounds → Numbered (stage_of s).machine j (get_or s.rows j [])
+  held sizes j l u h =
+      ap (λ (x : List (List ℕ)). get_or (get_or x j []) u 0) s.kept.holds
+      ∙ ap (λ (x : List ℕ). get_or x u 0) (row_is (stage_of s).machine s.rounds j l (omega (arith, s.early, s.few)))
+      ∙ row_numbered (stage_of s).machine (few_states (g.means s.machine) sizes) j u h
+
+  -- The next partition, made from the last row: where it has no more blocks the sheet has settled, and else it has not.
+  module _ (sizes : Sizes (g.means s.machine)) (so : (stage_of s).sound ≡ true) (row : List ℕ) (parts : ℕ)
+      (made : Refines o.key (g.means s.machine) (get_or s.rows s.rounds []) row parts) where
+    pub next_is : (row ≡ row_of (stage_of s).machine (suc s.rounds)) × (parts ≡ block_count (stage_of s).machine (suc s.rounds))
+    next_is = made s.rounds so (held sizes s.rounds (omega arith))
+
+    pub no_more : parts ≤ s.parts → Settled (stage_of s).machine s.rounds
+    no_more l = settled_from (stage_of s).machine s.rounds (omega (arith, next_is.1, counted so, l))
+
+    pub some_more : s.parts < parts → Settled (stage_of s).machine s.rounds → ⊥
+    some_more l done = omega (arith, next_is.1, counted so, l, settled_count (stage_of s).machine s.rounds done)
+
+  -- What its stage says of its machine.
+  pub known : Sizes (g.means s.machine) → meaning.Closed (g.means s.machine) → Known (stage_of s)
+  known sizes closed = record {
+    closes = sound_closed o.key (g.means s.machine) closed;
+    starts = λ e. (sound_fits (g.means s.machine) sizes e).starts;
+    splits = s.kept.splits;
+    settles = s.kept.settles;
+  }
+
+  -- Two states differ in a row taken exactly where its partition sets them apart.
+  pub differ : Sizes (g.means s.machine) → (u v : ℕ) → u < (stage_of s).machine.states → v < (stage_of s).machine.states
+      → (j : ℕ) → j ≤ s.rounds
+      → not (eqb (get_or (get_or s.rows j []) u 0) (get_or (get_or s.rows j []) v 0)) ≡ not (share (stage_of s).machine j u v)
+  differ sizes u v lu lv j l =
+      let N : Mealy = (stage_of s).machine in
+      ap (λ (x : ℕ). not (eqb x (get_or (get_or s.rows j []) v 0))) (held sizes j l u lu)
+      ∙ ap (λ (x : ℕ). not (eqb (block N j u) x)) (held sizes j l v lv)
+      ∙ ap not (numbers_tell N j u v)
+
+  -- So the first row taken in which they differ is the round in which they part, where they have.
+  pub parted_found : Sizes (g.means s.machine) → (u v : ℕ) → u < (stage_of s).machine.states → v < (stage_of s).machine.states
+      → position (λ row. not (eqb (get_or row u 0) (get_or row v 0))) (take (s.rounds + 1) s.rows) ≡ parted_in (stage_of s) u v
+  parted_found sizes u v lu lv =
+      let N : Mealy = (stage_of s).machine in
+      let r : ℕ = s.rounds in
+      let p : List ℕ → Bool = λ row. not (eqb (get_or row u 0) (get_or row v 0)) in
+      let xs : List (List ℕ) = take (r + 1) s.rows in
+      let j : ℕ = parted N r u v in
+      let rows : length s.rows ≡ 128 = ap length s.kept.holds ∙ length-map-range_with_len (row_at N r) 0 128 in
+      let size : length xs ≡ r + 1 = length-take-le (r + 1) s.rows (omega (arith, rows, s.early, s.few)) in
+      let at : (i : ℕ) → i < r + 1 → p (get_or xs i []) ≡ not (share N i u v) =
+      λ i l. ap p (get_or-take (r + 1) s.rows i [] l) ∙ differ sizes u v lu lv i (omega arith) in
+      let is = lowest_is (suc r) (λ i. not (share N i u v)) in
+      let first : position_or_len p xs ≡ j =
+      position_or_len_is p xs j [] (omega (arith, size, is.within)) (λ k l. at k (omega (arith, is.within)) ∙ is.first k l)
+      (λ l. at j (omega (arith, size)) ∙ is.passes (omega (arith, size))) in
+      let taken : ltb j (r + 1) ≡ leb j r =
+      by_test (leb j r) (λ e. lt-ltb j (r + 1) (omega (arith, leb-true j r e)) ∙ sym e)
+      (λ e. le-ltb j (r + 1) (omega (arith, leb-false j r e)) ∙ sym e) in
+      ap (λ (x : ℕ). cond (ltb x (length xs)) (Some x) None) first
+      ∙ ap (λ (x : ℕ). cond (ltb j x) (Some j) None) size ∙ ap (λ (b : Bool). cond b (Some j) None) taken
 
 -- The partition in which two states part sets them apart.
 pub parted_apart : (m : Mealy) (r s t j : ℕ) → j ≡ parted m r s t → j ≤ r → share m j s t ≡ false

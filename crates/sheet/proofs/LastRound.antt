@@ -1,9 +1,6 @@
 -- How many rounds split before one settles.
 use Rattle.std.proofs.Common.{◌≡◌, ℕ, suc, ◌+◌, ◌-◌, ◌<◌, ◌≤◌, true, false, List, ℤ, Ok, sym, ap, ◌∙◌, arith}
 use Rattle.std.proofs.lemmas.Bool.{eq-eqb, ne_eqb, eqb-true, both_ways}
-use Rattle.machine.specs.Meaning.{Meaning, Sizes}
-use Rattle.machine.specs.Theory.{mealy_of, sound_by}
-use Rattle.machine.proofs.Theory.{sound_fits}
 use Rattle.mealy.specs.Mealy.{Mealy}
 use Rattle.mealy.specs.Partitions.{block_count, Settled}
 use Rattle.mealy.proofs.Below.{by_test, by_order, lowest_is, lowest_le}
@@ -12,11 +9,10 @@ use Rattle.mealy.proofs.Settled.{settled_count}
 use Rattle.rounds.proofs.Passes.{lowest_found}
 use Rattle.sheet.specs.Kept.{Splits}
 use Rattle.sheet.specs.Replies.{settles_in, splits_in_all, round_reply, settle_reply}
-use Rattle.sheet.specs.Stage.{Stage, stage_at}
-use Rattle.sheet.specs.declared.Sheet.{Sheet}
+use Rattle.sheet.specs.Stage.{Stage, at_round}
 use Rattle.sheet.specs.declared.answers.Round.TheVariants as round
 use Rattle.sheet.proofs.Answering.{heard, still_open, splits}
-use Rattle.sheet.proofs.Keeping.{KeptBy, parts_are}
+use Rattle.sheet.proofs.Keeping.{Known}
 
 -- The test is that the round changes nothing.
 pub settles_test : (m : Mealy) (j : ℕ) → Settled m j → settles_in m j ≡ true
@@ -41,21 +37,17 @@ settled_answer t so fresh n e =
     let z : ◌≡◌ {A = ℕ} 0 1 = cc (e, splits-on) in
     absurd (omega (arith, z)))
 
--- Rounds after r that split, of which the last settled.
-pub settled_all : {M O F : Type 0} (key : O → List ℤ) (m : Meaning O F) → Sizes m → (a s f : Sheet M) (accepted n : ℕ)
-    → KeptBy key m s → KeptBy key m f → sound_by m ≡ true → a.settled ≡ false → s.settled ≡ false
-    → Ok (round.Settled n) ≡ round_reply (stage_at key m s.rounds s.settled) → f.rounds ≡ s.rounds
-    → s.rounds + 1 ≡ a.rounds + accepted → 1 ≤ accepted
-    → Ok (record { rounds = accepted; count = f.parts }) ≡ settle_reply (stage_at key m a.rounds a.settled)
-settled_all key m sizes a s f accepted n ks kf so unsettled fresh e same counted some =
-    let N : Mealy = mealy_of key m in
-    let done = settled_answer (stage_at key m s.rounds s.settled) so fresh n e in
-    let all : splits_in_all N ≡ s.rounds = splits_in_all_lem N s.rounds (sound_fits m sizes so).some_states (ks.splits so) done in
-    let took : accepted ≡ splits_in_all N - a.rounds + 1 = omega (arith, all, counted, some) in
-    let parts : f.parts ≡ block_count N (splits_in_all N) = parts_are key m f kf so ∙ ap (block_count N) (same ∙ sym all) in
-    ap (λ (x : ℕ). Ok (record { rounds = x; count = f.parts })) took
-    ∙ ap (λ (x : ℕ). Ok (record { rounds = splits_in_all N - a.rounds + 1; count = x })) parts
-    ∙ still_open (stage_at key m a.rounds a.settled) _ unsettled ∙ heard (stage_at key m a.rounds a.settled) _ so
+-- Rounds that brought a stage to r, of which the last settled.
+pub settled_all : (t : Stage) (r : ℕ) → Known (at_round r t) → t.sound ≡ true → t.settled ≡ false → t.rounds ≤ r
+    → (n : ℕ) → Ok (round.Settled n) ≡ round_reply (at_round r t) → (count : ℕ) → count ≡ block_count t.machine r
+    → Ok (record { rounds = r - t.rounds + 1; count = count }) ≡ settle_reply t
+settled_all t r k so fresh up n e count parts =
+    let m = t.machine in
+    let done = settled_answer (at_round r t) so fresh n e in
+    let all : splits_in_all m ≡ r = splits_in_all_lem m r (omega (arith, k.starts so)) (k.splits so) done in
+    ap (λ (x : ℕ). Ok (record { rounds = r - t.rounds + 1; count = x })) (parts ∙ ap (block_count m) (sym all))
+    ∙ ap (λ (x : ℕ). Ok (record { rounds = x - t.rounds + 1; count = block_count m (splits_in_all m) })) (sym all)
+    ∙ still_open t _ fresh ∙ heard t _ so
 
 -- The round that settles is no earlier than those that split, and is there.
 pub last_is : (m : Mealy) (r : ℕ) → 1 ≤ m.states → Splits m r

@@ -3,7 +3,7 @@ use Rattle.std.proofs.Common.{◌≡◌, ℕ, suc, ◌+◌, ◌-◌, ◌<◌, �
 use Rattle.std.specs.List.{range_with_len}
 use Rattle.std.proofs.lemmas.List.{get_or_append_left, take_at}
 use Rattle.std.proofs.lemmas.List.FromFn.{get_or-map-range_with_len, length-map-range_with_len}
-use Rattle.std.proofs.lemmas.Bool.{both_ways, cond_both, and_parts, ltb-true, leb-true, leb-false, not-false}
+use Rattle.std.proofs.lemmas.Bool.{both_ways, cond_both, cond-true, and_parts, ltb-true, leb-true, leb-false, not-false}
 use Rattle.machine.specs.Meaning as meaning
 use Rattle.machine.specs.Meaning.{Meaning}
 use Rattle.machine.specs.Theory.{sound_by}
@@ -26,7 +26,7 @@ use Rattle.sheet.specs.Means.{NoneLonger, RoundMeans, SettleMeans, PairMeans, Ma
 use Rattle.sheet.specs.Replies.{settles_in, splits_in_all, round_reply, settle_reply, pair_at, pair_reply, map_reply, map_after, word_at, word_reply, word_after}
 use Rattle.sheet.specs.Stage.{Stage, stage_at, if_ok}
 use Rattle.sheet.specs.Tables.{cell_count, next_at, OutputsWritten}
-use Rattle.sheet.proofs.Answering.{heard, states, apart_at_lem}
+use Rattle.sheet.proofs.Answering.{heard, states}
 use Rattle.sheet.proofs.Keeping.{Known, splits_more}
 use Rattle.sheet.proofs.LastRound.{settles_test, test_settles, last_is}
 use Rattle.sheet.proofs.Tabling.{table_smallest, class_equivalent, next_read}
@@ -114,7 +114,7 @@ module _ (t : Stage) (k : Known t) (so : t.sound ≡ true) (s u : ℕ) (ls : s <
         size = ap length front ∙ size;
         first = subst (Shortest m s u) (sym front) is.1;
         paired =
-            sym (ap Ok (apart_at_lem t.rounds j t.settled l ∙ ap (pair_at t.rounds t.settled) e)
+            sym (ap Ok (sym (cond-true _ _ _ early) ∙ ap (pair_at t.rounds t.settled) e)
             ∙ states t _ s u ls lu ∙ heard t _ so);
       }))
       (λ late.

@@ -1,5 +1,6 @@
 pub mod Stage
 pub mod Kept
+pub mod Standing
 pub mod Refusals
 pub mod Texts
 pub mod Replies

@@ -1,10 +1,10 @@
 -- What each call answers at a stage, and what it leaves in its buffer.
 --   when_sound, when_states     what every call on a sheet, or on two states, refuses first
 --   round_reply, settle_reply   a round, and rounds until one settles
---   pair_reply                  how two states stand
+--   parted_in, pair_reply       the round in which two states part, and how they stand
 --   map_reply, map_after        the block numbers
 --   word_reply, word_after      the word of two states
-use Rattle.std.specs.Prelude.{ℕ, suc, ◌+◌, ◌-◌, Bool, cond, ◌&&◌, List, ◌++◌, length, drop, Ok, Err, Result, ◌==◌, nat_le, nat_lt}
+use Rattle.std.specs.Prelude.{ℕ, suc, ◌+◌, ◌-◌, Bool, cond, ◌&&◌, List, ◌++◌, length, drop, Some, None, Ok, Err, Option, Result, ◌==◌, nat_le, nat_lt}
 use Rattle.mealy.specs.Below.{lowest}
 use Rattle.mealy.specs.FirstWord.{word_of}
 use Rattle.mealy.specs.Mealy.{Mealy}
@@ -48,6 +48,14 @@ abbrev pub settle_reply : Stage → Result Settling Refusal
 settle_reply t =
     let last : ℕ = splits_in_all t.machine in
     when_sound t (when_open t (Ok (record { rounds = last - t.rounds + 1; count = block_count t.machine last })))
+
+-- round j, where it is one of the first r
+abbrev pub if_taken : ℕ → ℕ → Option ℕ
+if_taken r j = cond (nat_le j r) (Some j) None
+
+-- the round in which two states part, of those so far
+abbrev pub parted_in : Stage → ℕ → ℕ → Option ℕ
+parted_in t s u = if_taken t.rounds (parted t.machine t.rounds s u)
 
 -- two states that part in round j, after r rounds that split
 abbrev pub pair_at : ℕ → Bool → ℕ → Pair

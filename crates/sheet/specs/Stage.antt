@@ -1,14 +1,11 @@
 -- What a sheet's answers depend on, and how a round changes it.
---   Stage, stage_at, stage_of    the machine of the theory, its start, its soundness, the rounds that split, and settledness
+--   Stage, stage_at              the machine of the theory, its start, its soundness, the rounds that split, and settledness
 --   stage_after, stage_settled   the same after an answer to a round, or to settling
 --   Unchanged, if_ok             a refusal leaves what there was
 use Rattle.std.specs.Prelude.{◌≡◌, ℕ, ◌+◌, ◌-◌, Bool, true, List, ℤ, Ok, Err, Result}
 use Rattle.machine.specs.Meaning.{Meaning}
 use Rattle.machine.specs.Theory.{mealy_of, sound_by}
-use Rattle.machine.specs.declared.Machine as machines
-use Rattle.machine.specs.declared.outputs.Output as outputs
 use Rattle.mealy.specs.Mealy.{Mealy}
-use Rattle.sheet.specs.declared.Sheet.{Sheet}
 use Rattle.sheet.specs.declared.answers.Refusal.{Refusal}
 use Rattle.sheet.specs.declared.answers.Round.{Round}
 use Rattle.sheet.specs.declared.answers.Round.TheVariants as round
@@ -27,14 +24,13 @@ abbrev pub stage_at : {O F : Type 0} → (O → List ℤ) → Meaning O F → �
 stage_at key m r done =
     record { machine = mealy_of key m; start = m.start; sound = sound_by m; rounds = r; settled = done }
 
--- where a sheet stands, by what its own machine means
-abbrev pub stage_of : {M O F : Type 0} → machines.Ghosts M O F → outputs.Ghosts O → Sheet M → Stage
-stage_of g o s = stage_at o.key (g.means s.machine) s.rounds s.settled
+-- after r rounds that split
+abbrev pub at_round : ℕ → Stage → Stage
+at_round r t = record { machine = t.machine; start = t.start; sound = t.sound; rounds = r; settled = t.settled }
 
 -- one more round that split
 abbrev pub one_more : Stage → Stage
-one_more t =
-    record { machine = t.machine; start = t.start; sound = t.sound; rounds = t.rounds + 1; settled = t.settled }
+one_more t = at_round (t.rounds + 1) t
 
 -- settled after r rounds that split
 abbrev pub settled_at : ℕ → Stage → Stage

@@ -2,9 +2,9 @@
 ghost use Rattle.std.specs.Prelude.{◌≡◌, true, false, length, Ok, Decides};
 ghost use Rattle.machine.specs.Meaning.{Sound};
 ghost use Rattle.machine.specs.Theory.{sound_by};
-ghost use Rattle.sheet.specs.Stage.{stage_at, stage_of, stage_after, stage_settled, Unchanged};
-ghost use Rattle.sheet.specs.Kept.{Kept};
-ghost use Rattle.sheet.specs.Replies.{round_reply, settle_reply, pair_reply, map_reply, map_after, word_reply, word_after};
+ghost use Rattle.sheet.specs.Stage.{stage_at, stage_after, stage_settled, Unchanged};
+ghost use Rattle.sheet.specs.Standing.{stage_of};
+ghost use Rattle.sheet.specs.Replies.{when_sound, when_open, when_states, round_reply, settle_reply, parted_in, pair_reply, map_reply, map_after, word_reply, word_after};
 ghost use Rattle.sheet.specs.Tables.{table_reply, next_after, OutputsAfter};
 ghost use Rattle.sheet.specs.Means.{RoundMeans, SettleMeans, PairMeans, MapMeans, WordMeans, TableMeans};
 
@@ -17,9 +17,8 @@ impl<M: Machine> Sheet<M> {
     /// A sheet of one block, whatever the machine.
     pub fn open(machine: M) -> Sheet<M>
         ensures same { result.machine ≡ machine }
-        ensures stage { stage_of M.Machine M.Out.Output result ≡ stage_at M.Out.key (M.Machine.means machine) 0 false }
+        ensures stage { stage_of result ≡ stage_at M.Out.key (M.Machine.means machine) 0 false }
         ensures sound { Decides (sound_by (M.Machine.means machine)) (Sound (M.Machine.means machine)) }
-        ensures kept { Kept M.Machine M.Out.Output result }
     {
         let sound = check(&machine).is_ok();
         Sheet {
@@ -32,29 +31,62 @@ impl<M: Machine> Sheet<M> {
         }
     }
 
+    /// Refuses every call on an unsound machine.
+    fn heard(&self) -> Result<(), Refusal>
+        ensures { result ≡ when_sound (stage_of self.now) (Ok tt) }
+    {
+        if !self.sound {
+            return Err(Refusal::Unsound);
+        }
+        Ok(())
+    }
+
+    /// Refuses a round on a settled sheet besides.
+    fn still_open(&self) -> Result<(), Refusal>
+        ensures { result ≡ when_sound (stage_of self.now) (when_open (stage_of self.now) (Ok tt)) }
+    {
+        self.heard()?;
+        if self.settled {
+            return Err(Refusal::AlreadySettled);
+        }
+        Ok(())
+    }
+
+    /// The round in which two states part, of those so far. Refuses numbers that are not states besides.
+    fn parted(&self, s: u16, t: u16) -> Result<Option<usize>, Refusal>
+        ensures { result ≡ when_sound (stage_of self.now) (when_states (stage_of self.now) s t (Ok (parted_in (stage_of self.now) s t))) }
+    {
+        self.heard()?;
+        let n = self.machine.states();
+        if s >= n || t >= n {
+            return Err(Refusal::NoSuchState);
+        }
+        Ok(first_apart(&self.rows[..=self.rounds], s as usize, t as usize))
+    }
+
     /// Takes the next partition where it has more blocks than the last one, and settles the sheet where it has not.
     fn advance(&mut self) -> Round
+        requires sound { sound_by (M.Machine.means self.old.machine) ≡ true }
+        requires unsettled { self.old.settled ≡ false }
         ensures same { self.new.machine ≡ self.old.machine }
-        ensures stage { stage_of M.Machine M.Out.Output self.new ≡ stage_after (Ok result) (stage_of M.Machine M.Out.Output self.old) }
-        ensures sound { self.new.sound ≡ self.old.sound }
-        ensures kept { Kept M.Machine M.Out.Output self.old → self.old.sound ≡ true → self.old.settled ≡ false → Kept M.Machine M.Out.Output self.new }
-        ensures answer { Kept M.Machine M.Out.Output self.old → self.old.sound ≡ true → self.old.settled ≡ false → Ok result ≡ round_reply (stage_of M.Machine M.Out.Output self.old) }
+        ensures stage { stage_of self.new ≡ stage_after (Ok result) (stage_of self.old) }
+        ensures answer { Ok result ≡ round_reply (stage_of self.old) }
     {
-        let prev = self.rows[self.rounds];
-        let refined = refine(&self.machine, &prev);
+        // stays: a copy, since an element of an array in a struct with a ghost field is not lent from behind a `&mut`
+        let last = self.rows[self.rounds];
+        let refined = refine(&self.machine, &last);
         if refined.parts <= self.parts {
             self.settled = true;
             return Round::Settled {
                 count: self.parts as u16,
             };
         }
-        let taken = self.rounds + 1;
+        self.rounds += 1;
         let row = refined.row;
-        self.rows[taken] = row;
+        self.rows[self.rounds] = row;
         self.parts = refined.parts;
-        self.rounds = taken;
         Round::Split {
-            count: refined.parts as u16,
+            count: self.parts as u16,
         }
     }
 
@@ -62,18 +94,12 @@ impl<M: Machine> Sheet<M> {
     pub fn round(&mut self) -> Result<Round, Refusal>
         ensures same { self.new.machine ≡ self.old.machine }
         ensures refused { Unchanged result self.old self.new }
-        ensures stage { stage_of M.Machine M.Out.Output self.new ≡ stage_after result (stage_of M.Machine M.Out.Output self.old) }
-        ensures kept { Kept M.Machine M.Out.Output self.old → Kept M.Machine M.Out.Output self.new }
-        ensures answer { Kept M.Machine M.Out.Output self.old → result ≡ round_reply (stage_of M.Machine M.Out.Output self.old) }
-        ensures means { Kept M.Machine M.Out.Output self.old → RoundMeans (stage_of M.Machine M.Out.Output self.old) result }
+        ensures stage { stage_of self.new ≡ stage_after result (stage_of self.old) }
+        ensures answer { result ≡ round_reply (stage_of self.old) }
+        ensures means { RoundMeans (stage_of self.old) result }
     {
-        if !self.sound {
-            return Err(Refusal::Unsound);
-        }
-        let over = self.settled;
-        if over {
-            return Err(Refusal::AlreadySettled);
-        }
+        // a refused round changes nothing
+        self.still_open()?;
         Ok(self.advance())
     }
 
@@ -81,84 +107,54 @@ impl<M: Machine> Sheet<M> {
     pub fn settle(&mut self) -> Result<Settling, Refusal>
         ensures same { self.new.machine ≡ self.old.machine }
         ensures refused { Unchanged result self.old self.new }
-        ensures stage { stage_of M.Machine M.Out.Output self.new ≡ stage_settled result (stage_of M.Machine M.Out.Output self.old) }
-        ensures kept { Kept M.Machine M.Out.Output self.old → Kept M.Machine M.Out.Output self.new }
-        ensures answer { Kept M.Machine M.Out.Output self.old → result ≡ settle_reply (stage_of M.Machine M.Out.Output self.old) }
-        ensures means { Kept M.Machine M.Out.Output self.old → SettleMeans (stage_of M.Machine M.Out.Output self.old) result }
+        ensures stage { stage_of self.new ≡ stage_settled result (stage_of self.old) }
+        ensures answer { result ≡ settle_reply (stage_of self.old) }
+        ensures means { SettleMeans (stage_of self.old) result }
     {
-        if !self.sound {
-            return Err(Refusal::Unsound);
-        }
-        if self.settled {
-            return Err(Refusal::AlreadySettled);
-        }
-        let mut accepted: u16 = 1;
-        'rounds: while let Round::Split { .. } = self.advance() {
-            accepted += 1;
-        }
+        self.still_open()?;
+        let before = self.rounds;
+        'rounds: while let Round::Split { .. } = self.advance() {}
         Ok(Settling {
-            rounds: accepted,
+            rounds: (self.rounds - before + 1) as u16,
             count: self.parts as u16,
         })
     }
 
     /// Whether two states are told apart so far, and by how many inputs.
     pub fn pair(&self, s: u16, t: u16) -> Result<Pair, Refusal>
-        ensures answer { Kept M.Machine M.Out.Output self.now → result ≡ pair_reply (stage_of M.Machine M.Out.Output self.now) s t }
-        ensures means { Kept M.Machine M.Out.Output self.now → PairMeans (stage_of M.Machine M.Out.Output self.now) s t result }
+        ensures answer { result ≡ pair_reply (stage_of self.now) s t }
+        ensures means { PairMeans (stage_of self.now) s t result }
     {
-        if !self.sound {
-            return Err(Refusal::Unsound);
-        }
-        let n = self.machine.states();
-        if s >= n || t >= n {
-            return Err(Refusal::NoSuchState);
-        }
-        let j = first_apart(&self.rows, self.rounds, s as usize, t as usize);
-        if j <= self.rounds {
-            return Ok(Pair::Apart(j as u16));
-        }
-        if self.settled {
-            return Ok(Pair::Equivalent);
-        }
-        Ok(Pair::Together)
+        Ok(match self.parted(s, t)? {
+            Some(j) => Pair::Apart(j as u16),
+            None if self.settled => Pair::Equivalent,
+            None => Pair::Together,
+        })
     }
 
     /// Writes the block number of each state.
     pub fn map(&self, out: &mut [u16]) -> Result<(), Refusal>
-        ensures answer { Kept M.Machine M.Out.Output self.now → result ≡ map_reply (stage_of M.Machine M.Out.Output self.now) (length out.old) }
-        ensures buffer { Kept M.Machine M.Out.Output self.now → out.new ≡ map_after (stage_of M.Machine M.Out.Output self.now) out.old }
-        ensures means { Kept M.Machine M.Out.Output self.now → MapMeans (stage_of M.Machine M.Out.Output self.now) result out.new }
+        ensures answer { result ≡ map_reply (stage_of self.now) (length out.old) }
+        ensures buffer { out.new ≡ map_after (stage_of self.now) out.old }
+        ensures means { MapMeans (stage_of self.now) result out.new }
     {
-        if !self.sound {
-            return Err(Refusal::Unsound);
-        }
+        self.heard()?;
         let n = self.machine.states() as usize;
         if out.len() < n {
             return Err(Refusal::Short { needed: n });
         }
-        let row = self.rows[self.rounds];
-        copy_front(&row, n, out);
+        copy_front(&self.rows[self.rounds], n, out);
         Ok(())
     }
 
     /// Writes the first of the shortest words that tell two states apart.
     pub fn word(&self, s: u16, t: u16, out: &mut [u16]) -> Result<usize, Refusal>
-        ensures answer { Kept M.Machine M.Out.Output self.now → result ≡ word_reply (stage_of M.Machine M.Out.Output self.now) s t (length out.old) }
-        ensures buffer { Kept M.Machine M.Out.Output self.now → out.new ≡ word_after (stage_of M.Machine M.Out.Output self.now) s t out.old }
-        ensures means { Kept M.Machine M.Out.Output self.now → WordMeans (stage_of M.Machine M.Out.Output self.now) s t result out.new }
+        ensures answer { result ≡ word_reply (stage_of self.now) s t (length out.old) }
+        ensures buffer { out.new ≡ word_after (stage_of self.now) s t out.old }
+        ensures means { WordMeans (stage_of self.now) s t result out.new }
     {
-        if !self.sound {
-            return Err(Refusal::Unsound);
-        }
-        let n = self.machine.states();
-        if s >= n || t >= n {
-            return Err(Refusal::NoSuchState);
-        }
-        let j = first_apart(&self.rows, self.rounds, s as usize, t as usize);
-        if j > self.rounds {
-            return Err(Refusal::NotApart);
-        }
+        let found = self.parted(s, t)?;
+        let j = found.ok_or(Refusal::NotApart)?;
         if out.len() < j {
             return Err(Refusal::Short { needed: j });
         }
@@ -168,14 +164,12 @@ impl<M: Machine> Sheet<M> {
 
     /// Writes the smallest equivalent machine: next classes and outputs, class c at input i at place c × inputs + i.
     pub fn table(&self, next: &mut [u16], outputs: &mut [M::Out]) -> Result<Table, Refusal>
-        ensures answer { Kept M.Machine M.Out.Output self.now → result ≡ table_reply (stage_of M.Machine M.Out.Output self.now) (length next.old) (length outputs.old) }
-        ensures next { Kept M.Machine M.Out.Output self.now → next.new ≡ next_after (stage_of M.Machine M.Out.Output self.now) (length outputs.old) next.old }
-        ensures outputs { Kept M.Machine M.Out.Output self.now → OutputsAfter (M.Machine.means self.now.machine).entry (stage_of M.Machine M.Out.Output self.now) result outputs.old outputs.new }
-        ensures means { Kept M.Machine M.Out.Output self.now → TableMeans M.Out.Output.key (stage_of M.Machine M.Out.Output self.now) result next.new outputs.new }
+        ensures answer { result ≡ table_reply (stage_of self.now) (length next.old) (length outputs.old) }
+        ensures next { next.new ≡ next_after (stage_of self.now) (length outputs.old) next.old }
+        ensures outputs { OutputsAfter (M.Machine.means self.now.machine).entry (stage_of self.now) result outputs.old outputs.new }
+        ensures means { TableMeans M.Out.Output.key (stage_of self.now) result next.new outputs.new }
     {
-        if !self.sound {
-            return Err(Refusal::Unsound);
-        }
+        self.heard()?;
         if !self.settled {
             return Err(Refusal::Unsettled);
         }
@@ -186,8 +180,8 @@ impl<M: Machine> Sheet<M> {
         if outputs.len() < total {
             return Err(Refusal::ShortTable(TableBuffer::Outputs));
         }
-        let row = self.rows[self.rounds];
-        fill(&self.machine, &row, total, next, outputs);
+        let row = &self.rows[self.rounds];
+        fill(&self.machine, row, total, next, outputs);
         let start = self.machine.start();
         Ok(Table {
             classes: self.parts as u16,

@@ -2,13 +2,18 @@
 #![tactic(auto)]
 
 ghost use Rattle.std.specs.Prelude.{◌<◌, ◌≤◌};
+ghost use Rattle.sheet.specs.Stage.{stage_at};
+ghost use Rattle.sheet.specs.Kept.{KeptAt, KeptAt-prop};
 
 pub use crate::answers::{Pair, Refusal, Round, Settling, Table, TableBuffer};
+use machine::{Machine, Output};
 
 /// A machine, and what is known of its states so far.
 /// Row j holds the block number of each state in the partition P j; `parts` counts the blocks of the last one taken.
+/// All of it is a function of the machine's meaning, of `rounds` and of `settled`.
+// stays: rows in an array, beside `rounds`: with a list that can be empty each call would have to say what the last row is where there is none
 #[derive(Drop)]
-pub struct Sheet<M> {
+pub struct Sheet<M: Machine> {
     machine: M,
     sound: bool,
     settled: bool,
@@ -17,6 +22,7 @@ pub struct Sheet<M> {
     rows: [[u8; 128]; 128],
     ghost early: { rounds < parts },
     ghost few: { parts ≤ 128 },
+    ghost kept: { KeptAt (stage_at M.Out.key (M.Machine.means machine) rounds settled) sound parts rows } by { KeptAt-prop (stage_at M.Out.key (M.Machine.means machine) rounds settled) sound parts rows },
 }
 
 pub mod answers;

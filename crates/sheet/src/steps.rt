@@ -1,5 +1,5 @@
 //! The loops behind the calls, over rows of block numbers.
-ghost use Rattle.std.specs.Prelude.{◌≡◌, ℕ, ◌+◌, ◌*◌, ◌<◌, ◌≤◌, not, List, [], ◌++◌, length, take, drop, replicate, ◌==◌, nat_eq, slice_index, slice_index_or};
+ghost use Rattle.std.specs.Prelude.{◌≡◌, ℕ, ◌+◌, ◌*◌, ◌<◌, ◌≤◌, not, List, [], ◌++◌, length, take, drop, replicate, ◌==◌, nat_eq, slice_index, position};
 ghost use Rattle.mealy.specs.Below.{lowest};
 ghost use Rattle.sheet.specs.Steps.{Spelt, Tabled};
 
@@ -23,17 +23,12 @@ pub(crate) fn copy_front(row: &[u8; 128], n: usize, out: &mut [u16])
     }
 }
 
-/// The first of the rows up to the last in which two places differ, or one past the last.
-pub(crate) fn first_apart(rows: &[[u8; 128]; 128], last: usize, s: usize, t: usize) -> usize
-    requires { (last < 128) × (s < 128) × (t < 128) }
-    ensures { result ≡ lowest (last + 1) (λ i. not (slice_index (slice_index_or rows.now i []) s == slice_index (slice_index_or rows.now i []) t)) }
+/// The first row in which two places differ.
+pub(crate) fn first_apart(rows: &[[u8; 128]], s: usize, t: usize) -> Option<usize>
+    requires { (s < 128) × (t < 128) }
+    ensures { result ≡ position (λ row. not (slice_index row s == slice_index row t)) rows.now }
 {
-    for j in 0..last + 1 {
-        if rows[j][s] != rows[j][t] {
-            return j;
-        }
-    }
-    last + 1
+    rows.iter().position(|row| row[s] != row[t])
 }
 
 /// The lowest state below n with the number c, or n.

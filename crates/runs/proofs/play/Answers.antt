@@ -1,5 +1,6 @@
 use Rattle.std.proofs.Common.{◌≡◌, false, get_or, Ok, Err, sym, refl, ap, ◌∙◌, subst, arith}
-use Rattle.sheet.specs.Stage.{Stage, stage_at, stage_of}
+use Rattle.sheet.specs.Stage.{Stage, stage_at}
+use Rattle.sheet.specs.Standing.{stage_of}
 use Rattle.runs.specs.declared.Call.{Call}
 use Rattle.runs.specs.declared.Call.TheVariants as call
 use Rattle.runs.specs.Entries.{buffers, entry_of}
@@ -14,7 +15,6 @@ loop-i-init g c =
     let p : c.open-sheet.result.machine ≡ c.args.machine = c.open-sheet.ensures.same in
     let m = g.M.Machine.means c.open-sheet.result.machine in (
       refl,
-      c.open-sheet.ensures.kept,
       going_none key m.entry (stage_at key m 0 false) (buffers c.args.numbers.now c.args.next.now c.args.outputs.now) c.args.calls.now (g.R.Recorder.log c.args.recorder.now) _
           (c.open-sheet.ensures.stage ∙ ap (λ (x : g.row.M.Denot). stage_at key (g.M.Machine.means x) 0 false) (sym p)),
     )
@@ -27,16 +27,15 @@ loop-i-preserved g c =
     let a = c.ask-answer.result in
     let m = g.M.Machine.means c.open-sheet.result.machine in
     let k : Call = get_or c.args.calls.now c.loop-i.i call.Round in
-    let t : Stage = stage_of g.M.Machine g.M.Out.Output s in
+    let t : Stage = stage_of s in
     let before = buffers c.loop-i.numbers c.loop-i.next c.loop-i.outputs in
     let after = buffers c.ask-answer.new.numbers c.ask-answer.new.next c.ask-answer.new.outputs in
     let right : Right key m.entry t k before a after =
-    subst (λ (x : g.row.M.Denot). Right key (g.M.Machine.means x).entry t k before a after) inv.0 (c.ask-answer.ensures.right inv.1) in (
+    subst (λ (x : g.row.M.Denot). Right key (g.M.Machine.means x).entry t k before a after) inv.0 c.ask-answer.ensures.right in (
       c.ask-answer.ensures.same ∙ inv.0,
-      c.ask-answer.ensures.kept inv.1,
-      going_more key m.entry (stage_at key m 0 false) (buffers c.args.numbers.now c.args.next.now c.args.outputs.now) c.args.calls.now c.loop-i.i (g.R.Recorder.log c.args.recorder.now) (g.R.Recorder.log c.loop-i.recorder) t before inv.2
+      going_more key m.entry (stage_at key m 0 false) (buffers c.args.numbers.now c.args.next.now c.args.outputs.now) c.args.calls.now c.loop-i.i (g.R.Recorder.log c.args.recorder.now) (g.R.Recorder.log c.loop-i.recorder) t before inv.1
           k call.Round (omega arith) refl (entry_of k a c.ask-answer.new.numbers c.ask-answer.new.next c.ask-answer.new.outputs) refl right
-          (g.R.Recorder.log c.note.new.self) (stage_of g.M.Machine g.M.Out.Output c.ask-answer.new.sheet) c.in_default.ensures c.ask-answer.ensures.stage,
+          (g.R.Recorder.log c.note.new.self) (stage_of c.ask-answer.new.sheet) c.in_default.ensures c.ask-answer.ensures.stage,
     )
 
 pub returns-in-Err : goal.returns-in-Err
@@ -45,7 +44,7 @@ returns-in-Err g c =
     let m = g.M.Machine.means c.open-sheet.result.machine in
     let start = buffers c.args.numbers.now c.args.next.now c.args.outputs.now in
     subst (λ (x : g.row.M.Denot). Played key (g.M.Machine.means x).entry (stage_at key (g.M.Machine.means x) 0 false) start c.args.calls.now (g.R.Recorder.log c.args.recorder.now) (g.R.Recorder.log c.note.new.self) (Err c.in-Err.stop) (buffers c.ask-answer.new.numbers c.ask-answer.new.next c.ask-answer.new.outputs)) c.open-sheet.ensures.same
-    (played_some key m.entry (stage_at key m 0 false) start c.args.calls.now c.loop-i.i (g.R.Recorder.log c.args.recorder.now) (g.R.Recorder.log c.loop-i.recorder) (g.R.Recorder.log c.note.new.self) (stage_of g.M.Machine g.M.Out.Output c.loop-i.sheet) (buffers c.loop-i.numbers c.loop-i.next c.loop-i.outputs) (buffers c.ask-answer.new.numbers c.ask-answer.new.next c.ask-answer.new.outputs) c.loop-i.invariant.2 c.in-Err.ensures (omega arith) c.in-Err.stop)
+    (played_some key m.entry (stage_at key m 0 false) start c.args.calls.now c.loop-i.i (g.R.Recorder.log c.args.recorder.now) (g.R.Recorder.log c.loop-i.recorder) (g.R.Recorder.log c.note.new.self) (stage_of c.loop-i.sheet) (buffers c.loop-i.numbers c.loop-i.next c.loop-i.outputs) (buffers c.ask-answer.new.numbers c.ask-answer.new.next c.ask-answer.new.outputs) c.loop-i.invariant.1 c.in-Err.ensures (omega arith) c.in-Err.stop)
 
 pub returns : goal.returns
 returns g c =
@@ -53,4 +52,4 @@ returns g c =
     let m = g.M.Machine.means c.open-sheet.result.machine in
     let start = buffers c.args.numbers.now c.args.next.now c.args.outputs.now in
     subst (λ (x : g.row.M.Denot). Played key (g.M.Machine.means x).entry (stage_at key (g.M.Machine.means x) 0 false) start c.args.calls.now (g.R.Recorder.log c.args.recorder.now) (g.R.Recorder.log c.loop-i.recorder) (Ok tt) (buffers c.loop-i.numbers c.loop-i.next c.loop-i.outputs)) c.open-sheet.ensures.same
-    (played_all key m.entry (stage_at key m 0 false) start c.args.calls.now c.loop-i.i (g.R.Recorder.log c.args.recorder.now) _ (stage_of g.M.Machine g.M.Out.Output c.loop-i.sheet) (buffers c.loop-i.numbers c.loop-i.next c.loop-i.outputs) c.loop-i.invariant.2 (omega arith) tt)
+    (played_all key m.entry (stage_at key m 0 false) start c.args.calls.now c.loop-i.i (g.R.Recorder.log c.args.recorder.now) _ (stage_of c.loop-i.sheet) (buffers c.loop-i.numbers c.loop-i.next c.loop-i.outputs) c.loop-i.invariant.1 (omega arith) tt)

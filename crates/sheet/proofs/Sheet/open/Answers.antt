@@ -1,19 +1,22 @@
-use Rattle.std.proofs.Common.{is_ok, refl, ◌∙◌}
+use Rattle.std.proofs.Common.{is_ok, refl, ◌∙◌, arith}
 use Rattle.machine.specs.Theory.{sound_by}
 use Rattle.machine.proofs.Theory.{sound_decides, tests_agree}
 use Rattle.sheet.proofs.Keeping.{kept_fresh}
 use Rattle.sheet.proofs.Sheet.open.Goals as goal
 
-pub returns : goal.returns
-returns g c =
+pub invariant_of-result : goal.invariant_of-result
+invariant_of-result g c =
     let x = c.args.machine in
     let m = g.M.Machine.means x in
     let decides = sound_decides m (g.met.M.Machine.sizes x) in
     record {
-      same = refl;
-      stage = refl;
-      sound = decides;
-      kept = kept_fresh g.M.Out.Output.key m (g.met.M.Machine.sizes x) _
-          (c.is_ok-sound.ensures.value ∙ tests_agree (is_ok c.check.result) (sound_by m) _ c.check.ensures.accepts decides)
-          refl refl refl c.blank.ensures;
+      early = omega arith;
+      few = omega arith;
+      kept = kept_fresh g.M.Out.Output.key m (g.met.M.Machine.sizes x) _ _
+          (c.is_ok-sound.ensures.value ∙ tests_agree (is_ok c.check.result) (sound_by m) _ c.check.ensures.accepts decides) c.blank.ensures;
     }
+
+pub returns : goal.returns
+returns g c =
+    let x = c.args.machine in
+    record { same = refl; stage = refl; sound = sound_decides (g.M.Machine.means x) (g.met.M.Machine.sizes x) }

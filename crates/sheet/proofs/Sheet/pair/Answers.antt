@@ -1,79 +1,55 @@
-use Rattle.std.proofs.Common.{◌≡◌, ◌<◌, Ok, sym, ap, ◌∙◌, ⊎_elim, arith}
-use Rattle.machine.proofs.Theory.{few_states}
+use Rattle.std.proofs.Common.{◌≡◌, Some, None, Ok, Err, sym, ap, ◌∙◌, arith}
+use Rattle.std.proofs.lemmas.Result.{err_from_is_err_and}
+use Rattle.mealy.specs.Partitions.{parted}
 use Rattle.sheet.specs.declared.answers.Pair.{Pair}
 use Rattle.sheet.specs.declared.answers.Pair.TheVariants as pairs
-use Rattle.sheet.specs.Kept.{Kept}
-use Rattle.sheet.specs.Replies.{pair_at, pair_reply}
-use Rattle.sheet.specs.Stage.{Stage, stage_at}
-use Rattle.sheet.proofs.Answering.{unsound, heard, no_states, states, apart_at_lem, equivalent_at, together_at}
-use Rattle.sheet.proofs.Keeping.{parted_is, known_of}
+use Rattle.sheet.specs.Replies.{pair_reply}
+use Rattle.sheet.specs.Stage.{Stage}
+use Rattle.sheet.specs.Standing.{stage_of}
+use Rattle.sheet.proofs.Answering.{no_states, states_so, heard, states, taken_is, apart_at_lem, equivalent_at, together_at}
+use Rattle.sheet.proofs.Keeping.{known}
 use Rattle.sheet.proofs.Meaning.{pair_means}
 use Rattle.sheet.proofs.Sheet.pair.Goals as goal
 
-pub returns-then-not-self : goal.returns-then-not-self
-returns-then-not-self g c =
-    let a = c.args.self.now in
-    let t : Stage = stage_at g.M.Out.Output.key (g.M.Machine.means a.machine) a.rounds a.settled in
-    record { answer = λ k. unsound t _ (sym k.sounds ∙ c.if-not-self.true); means = λ k. tt }
+pub returns-in_err-j : goal.returns-in_err-j
+returns-in_err-j g c =
+    let p = err_from_is_err_and c.from_residual.result c.from_residual.ensures.1 in
+    rw (p.1, p.2) (record { answer = no_states (stage_of c.args.self.now) _ _ _ c.args.s c.args.t c.in_err-j.ensures; means = tt })
 
-pub returns-then-s-n : goal.returns-then-s-n
-returns-then-s-n g c =
+pub overflow_cast-result : goal.overflow_cast-result
+overflow_cast-result g c =
     let a = c.args.self.now in
-    let t : Stage = stage_at g.M.Out.Output.key (g.M.Machine.means a.machine) a.rounds a.settled in
-    record {
-      answer = λ k.
-          no_states t _ c.args.s c.args.t (λ both. ⊎_elim (λ x. omega (arith, c.states-n.ensures)) (λ x. omega (arith, c.states-n.ensures)) c.then-s-n.either)
-          ∙ heard t _ (sym k.sounds ∙ c.if-not-self.false);
-      means = λ k. tt;
-    }
+    let t : Stage = stage_of a in
+    let is = states_so t _ _ c.args.s c.args.t c.in_ok-j.ensures in
+    let at = taken_is a.rounds (parted t.machine a.rounds c.args.s c.args.t) c.in-Some.j (sym c.in-Some.is ∙ is.3) in
+    omega (arith, at.0, at.1, a.early, a.few)
 
-pub returns-then-j-self : goal.returns-then-j-self
-returns-then-j-self g c =
+pub returns-in-Some : goal.returns-in-Some
+returns-in-Some g c =
     let a = c.args.self.now in
-    let key = g.M.Out.Output.key in
-    let m = g.M.Machine.means a.machine in
-    let sizes = g.met.M.Machine.sizes a.machine in
-    let t : Stage = stage_at key m a.rounds a.settled in
-    let ls : c.args.s < m.states = omega (arith, c.states-n.ensures) in
-    let lt : c.args.t < m.states = omega (arith, c.states-n.ensures) in
-    let answer : Kept g.M.Machine g.M.Out.Output a → Ok (pairs.Apart c.first_apart-j.result) ≡ pair_reply t c.args.s c.args.t = λ k.
-    let is = c.first_apart-j.ensures ∙ parted_is key m sizes a k c.args.s c.args.t ls lt in
-    ap (λ (x : Pair). Ok x) (apart_at_lem a.rounds c.first_apart-j.result a.settled c.if-j-self.true ∙ ap (pair_at a.rounds a.settled) is)
-    ∙ states t _ c.args.s c.args.t ls lt ∙ heard t _ (sym k.sounds ∙ c.if-not-self.false) in
-    record { answer = answer; means = λ k. pair_means t (known_of key m sizes (g.met.M.Machine.closed a.machine) a k) c.args.s c.args.t _ (answer k) }
+    let t : Stage = stage_of a in
+    let is = states_so t _ _ c.args.s c.args.t c.in_ok-j.ensures in
+    let answer : Ok (pairs.Apart c.in-Some.j) ≡ pair_reply t c.args.s c.args.t =
+    ap (λ (x : Pair). Ok x) (apart_at_lem a.rounds (parted t.machine a.rounds c.args.s c.args.t) _ a.settled (sym c.in-Some.is ∙ is.3))
+    ∙ states t _ c.args.s c.args.t is.1 is.2 ∙ heard t _ is.0 in
+    record { answer = answer; means = pair_means t (known a (g.met.M.Machine.sizes a.machine) (g.met.M.Machine.closed a.machine)) c.args.s c.args.t _ answer }
 
-pub returns-then-self : goal.returns-then-self
-returns-then-self g c =
+pub returns-in-None : goal.returns-in-None
+returns-in-None g c =
     let a = c.args.self.now in
-    let key = g.M.Out.Output.key in
-    let m = g.M.Machine.means a.machine in
-    let sizes = g.met.M.Machine.sizes a.machine in
-    let t : Stage = stage_at key m a.rounds a.settled in
-    let ls : c.args.s < m.states = omega (arith, c.states-n.ensures) in
-    let lt : c.args.t < m.states = omega (arith, c.states-n.ensures) in
-    let answer : Kept g.M.Machine g.M.Out.Output a → Ok pairs.Equivalent ≡ pair_reply t c.args.s c.args.t = λ k.
-    let is = c.first_apart-j.ensures ∙ parted_is key m sizes a k c.args.s c.args.t ls lt in
-    ap (λ (x : Pair). Ok x) (equivalent_at a.rounds c.first_apart-j.result a.settled c.if-j-self.false c.if-self.true ∙ ap (pair_at a.rounds a.settled) is)
-    ∙ states t _ c.args.s c.args.t ls lt ∙ heard t _ (sym k.sounds ∙ c.if-not-self.false) in
-    record { answer = answer; means = λ k. pair_means t (known_of key m sizes (g.met.M.Machine.closed a.machine) a k) c.args.s c.args.t _ (answer k) }
+    let t : Stage = stage_of a in
+    let is = states_so t _ _ c.args.s c.args.t c.in_ok-j.ensures in
+    let answer : Ok pairs.Equivalent ≡ pair_reply t c.args.s c.args.t =
+    ap (λ (x : Pair). Ok x) (equivalent_at a.rounds (parted t.machine a.rounds c.args.s c.args.t) a.settled (sym c.in-None.is ∙ is.3) c.if-self.true)
+    ∙ states t _ c.args.s c.args.t is.1 is.2 ∙ heard t _ is.0 in
+    record { answer = answer; means = pair_means t (known a (g.met.M.Machine.sizes a.machine) (g.met.M.Machine.closed a.machine)) c.args.s c.args.t _ answer }
 
-pub returns : goal.returns
-returns g c =
+pub returns-in-None-2 : goal.returns-in-None-2
+returns-in-None-2 g c =
     let a = c.args.self.now in
-    let key = g.M.Out.Output.key in
-    let m = g.M.Machine.means a.machine in
-    let sizes = g.met.M.Machine.sizes a.machine in
-    let t : Stage = stage_at key m a.rounds a.settled in
-    let ls : c.args.s < m.states = omega (arith, c.states-n.ensures) in
-    let lt : c.args.t < m.states = omega (arith, c.states-n.ensures) in
-    let answer : Kept g.M.Machine g.M.Out.Output a → Ok pairs.Together ≡ pair_reply t c.args.s c.args.t = λ k.
-    let is = c.first_apart-j.ensures ∙ parted_is key m sizes a k c.args.s c.args.t ls lt in
-    ap (λ (x : Pair). Ok x) (together_at a.rounds c.first_apart-j.result a.settled c.if-j-self.false c.if-self.false ∙ ap (pair_at a.rounds a.settled) is)
-    ∙ states t _ c.args.s c.args.t ls lt ∙ heard t _ (sym k.sounds ∙ c.if-not-self.false) in
-    record { answer = answer; means = λ k. pair_means t (known_of key m sizes (g.met.M.Machine.closed a.machine) a k) c.args.s c.args.t _ (answer k) }
-
-pub first_apart-j-requires : goal.first_apart-j-requires
-first_apart-j-requires g c =
-    let a = c.args.self.now in
-    let fits = few_states (g.M.Machine.means a.machine) (g.met.M.Machine.sizes a.machine) in
-    (omega (arith, a.early, a.few), omega (arith, c.states-n.ensures), omega (arith, c.states-n.ensures))
+    let t : Stage = stage_of a in
+    let is = states_so t _ _ c.args.s c.args.t c.in_ok-j.ensures in
+    let answer : Ok pairs.Together ≡ pair_reply t c.args.s c.args.t =
+    ap (λ (x : Pair). Ok x) (together_at a.rounds (parted t.machine a.rounds c.args.s c.args.t) a.settled (sym c.in-None-2.is ∙ is.3) c.if-self.false)
+    ∙ states t _ c.args.s c.args.t is.1 is.2 ∙ heard t _ is.0 in
+    record { answer = answer; means = pair_means t (known a (g.met.M.Machine.sizes a.machine) (g.met.M.Machine.closed a.machine)) c.args.s c.args.t _ answer }

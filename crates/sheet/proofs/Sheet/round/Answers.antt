@@ -1,51 +1,30 @@
-use Rattle.std.proofs.Common.{◌≡◌, Ok, sym, refl, ◌∙◌}
-use Rattle.sheet.specs.Kept.{Kept}
+use Rattle.std.proofs.Common.{◌≡◌, Ok, Err, refl}
 use Rattle.sheet.specs.Replies.{round_reply}
-use Rattle.sheet.specs.Stage.{Stage, stage_at}
-use Rattle.sheet.proofs.Answering.{unsound, heard, over}
-use Rattle.sheet.proofs.Keeping.{known_of}
+use Rattle.sheet.specs.Stage.{Stage}
+use Rattle.sheet.specs.Standing.{stage_of}
+use Rattle.sheet.proofs.Answering.{closed, open_so}
+use Rattle.sheet.proofs.Keeping.{known}
 use Rattle.sheet.proofs.Meaning.{round_means}
+use Rattle.std.proofs.lemmas.Result.{err_from_is_err_and}
 use Rattle.sheet.proofs.Sheet.round.Goals as goal
 
-pub returns-then-not-self : goal.returns-then-not-self
-returns-then-not-self g c =
-    let a = c.args.self.now in
-    let t : Stage = stage_at g.M.Out.Output.key (g.M.Machine.means a.machine) a.rounds a.settled in
-    record {
-      same = refl;
-      refused = refl;
-      stage = refl;
-      kept = λ k. k;
-      answer = λ k. unsound t _ (sym k.sounds ∙ c.if-not-self.true);
-      means = λ k. tt;
-    }
+pub returns-in_err-still_open : goal.returns-in_err-still_open
+returns-in_err-still_open g c =
+    let p = err_from_is_err_and c.from_residual.result c.from_residual.ensures.1 in
+    rw (p.1, p.2) (record { same = refl; refused = refl; stage = refl; answer = closed (stage_of c.args.self.now) tt _ _ c.in_err-still_open.ensures; means = tt })
 
-pub returns-then-over : goal.returns-then-over
-returns-then-over g c =
-    let a = c.args.self.now in
-    let t : Stage = stage_at g.M.Out.Output.key (g.M.Machine.means a.machine) a.rounds a.settled in
-    record {
-      same = refl;
-      refused = refl;
-      stage = refl;
-      kept = λ k. k;
-      answer = λ k. over t _ c.if-over.true ∙ heard t _ (sym k.sounds ∙ c.if-not-self.false);
-      means = λ k. tt;
-    }
+pub advance-requires : goal.advance-requires
+advance-requires g c =
+    let so = open_so (stage_of c.args.self.now) tt tt c.in_ok-still_open.ensures in
+    record { sound = so.0; unsettled = so.1 }
 
 pub returns : goal.returns
 returns g c =
     let a = c.args.self.now in
-    let key = g.M.Out.Output.key in
-    let m = g.M.Machine.means a.machine in
-    let t : Stage = stage_at key m a.rounds a.settled in
-    let answer : Kept g.M.Machine g.M.Out.Output a → Ok c.advance.result ≡ round_reply t = λ k.
-    c.advance.ensures.answer k c.if-not-self.false c.if-over.false in
     record {
       same = c.advance.ensures.same;
       refused = tt;
       stage = c.advance.ensures.stage;
-      kept = λ k. c.advance.ensures.kept k c.if-not-self.false c.if-over.false;
-      answer = answer;
-      means = λ k. round_means t (known_of key m (g.met.M.Machine.sizes a.machine) (g.met.M.Machine.closed a.machine) a k) _ (answer k);
+      answer = c.advance.ensures.answer;
+      means = round_means (stage_of a) (known a (g.met.M.Machine.sizes a.machine) (g.met.M.Machine.closed a.machine)) _ c.advance.ensures.answer;
     }

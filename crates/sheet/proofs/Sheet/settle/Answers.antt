@@ -1,84 +1,76 @@
-use Rattle.std.proofs.Common.{◌≡◌, ℕ, ◌+◌, true, Ok, sym, refl, ap, ◌∙◌, subst, arith}
-use Rattle.machine.specs.Theory.{sound_by}
+use Rattle.std.proofs.Common.{◌≡◌, ℕ, ◌+◌, ◌-◌, true, false, Ok, sym, refl, ap, ◌∙◌, subst, arith}
+use Rattle.mealy.specs.Partitions.{block_count}
 use Rattle.sheet.specs.declared.answers.Round.{Round}
-use Rattle.sheet.specs.Kept.{Kept}
 use Rattle.sheet.specs.Replies.{round_reply, settle_reply}
-use Rattle.sheet.specs.Stage.{Stage, stage_at, stage_of, stage_after, settled_at}
-use Rattle.sheet.proofs.Answering.{unsound, heard, over}
-use Rattle.sheet.proofs.Keeping.{KeptBy, known_of}
-use Rattle.sheet.proofs.Meaning.{settle_means}
+use Rattle.sheet.specs.Stage.{Stage, at_round, one_more, settled_at, stage_after}
+use Rattle.sheet.specs.Standing.{stage_of}
+use Rattle.sheet.proofs.Answering.{closed, open_so}
+use Rattle.sheet.proofs.Keeping.{Known, counted, known}
 use Rattle.sheet.proofs.LastRound.{settled_all}
+use Rattle.sheet.proofs.Meaning.{settle_means}
+use Rattle.std.proofs.lemmas.Result.{err_from_is_err_and}
 use Rattle.sheet.proofs.Sheet.settle.Goals as goal
 
-pub returns-then-not-self : goal.returns-then-not-self
-returns-then-not-self g c =
-    let a = c.args.self.now in
-    let t : Stage = stage_at g.M.Out.Output.key (g.M.Machine.means a.machine) a.rounds a.settled in
-    record {
-      same = refl;
-      refused = refl;
-      stage = refl;
-      kept = λ k. k;
-      answer = λ k. unsound t _ (sym k.sounds ∙ c.if-not-self.true);
-      means = λ k. tt;
-    }
+pub returns-in_err-still_open : goal.returns-in_err-still_open
+returns-in_err-still_open g c =
+    let p = err_from_is_err_and c.from_residual.result c.from_residual.ensures.1 in
+    rw (p.1, p.2) (record { same = refl; refused = refl; stage = refl; answer = closed (stage_of c.args.self.now) tt _ _ c.in_err-still_open.ensures; means = tt })
 
-pub returns-then-self : goal.returns-then-self
-returns-then-self g c =
-    let a = c.args.self.now in
-    let t : Stage = stage_at g.M.Out.Output.key (g.M.Machine.means a.machine) a.rounds a.settled in
+pub rounds-init : goal.rounds-init
+rounds-init g c = (refl, refl, omega arith)
+
+pub advance-requires : goal.advance-requires
+advance-requires g c =
+    let so = open_so (stage_of c.args.self.now) tt tt c.in_ok-still_open.ensures in
+    let e = c.rounds.invariant.1 in
     record {
-      same = refl;
-      refused = refl;
-      stage = refl;
-      kept = λ k. k;
-      answer = λ k. over t _ c.if-self.true ∙ heard t _ (sym k.sounds ∙ c.if-not-self.false);
-      means = λ k. tt;
+      sound = ap (λ (x : Stage). x.sound) e ∙ so.0;
+      unsettled = ap (λ (x : Stage). x.settled) e ∙ so.1;
     }
 
 pub rounds-preserved : goal.rounds-preserved
 rounds-preserved g c =
     let inv = c.rounds.invariant in
     let s = c.rounds.self in
-    let t : Stage = stage_of g.M.Machine g.M.Out.Output s in
-    let after = c.advance.ensures.stage ∙ ap (λ (r : Round). stage_after (Ok r) t) c.in-Split.is in
+    let t : Stage = stage_of c.args.self.now in
+    let after = c.advance.ensures.stage ∙ ap (λ (r : Round). stage_after (Ok r) (stage_of s)) c.in-Split.is in
     let rounds : c.advance.new.self.rounds ≡ s.rounds + 1 = ap (λ (x : Stage). x.rounds) after in (
       c.advance.ensures.same ∙ inv.0,
-      c.advance.ensures.sound ∙ inv.1,
-      ap (λ (x : Stage). x.settled) after ∙ inv.2,
-      omega (arith, rounds, inv.3),
-      omega (arith, inv.4),
-      λ k. c.advance.ensures.kept (inv.5 k) inv.1 inv.2,
+      after ∙ ap one_more inv.1 ∙ ap (λ (n : ℕ). at_round n t) (sym rounds),
+      omega (arith, rounds, inv.2),
     )
 
 pub returns : goal.returns
 returns g c =
     let a = c.args.self.now in
-    let key = g.M.Out.Output.key in
-    let m = g.M.Machine.means a.machine in
-    let sizes = g.met.M.Machine.sizes a.machine in
-    let t : Stage = stage_at key m a.rounds a.settled in
+    let t : Stage = stage_of a in
+    let sizes = g.met.M.Machine.sizes in
+    let closes = g.met.M.Machine.closed in
     let inv = c.rounds.invariant in
     let s = c.rounds.self in
     let f = c.advance.new.self in
-    let p : s.machine ≡ a.machine = inv.0 in
-    let q : f.machine ≡ a.machine = c.advance.ensures.same ∙ p in
-    let after = c.advance.ensures.stage ∙ ap (λ (r : Round). stage_after (Ok r) (stage_of g.M.Machine g.M.Out.Output s)) c.in_default.is in
-    let rounds : f.rounds ≡ s.rounds = ap (λ (x : Stage). x.rounds) after in
-    let answer : Kept g.M.Machine g.M.Out.Output a → Ok (record { rounds = c.rounds.accepted; count = f.parts }) ≡ settle_reply t = λ k.
-    let so : sound_by m ≡ true = sym k.sounds ∙ c.if-not-self.false in
-    let ks : KeptBy key m s = subst (λ (x : g.row.M.Denot). KeptBy key (g.M.Machine.means x) s) p (inv.5 k) in
-    let kf : KeptBy key m f = subst (λ (x : g.row.M.Denot). KeptBy key (g.M.Machine.means x) f) q (c.advance.ensures.kept (inv.5 k) inv.1 inv.2) in
-    let e = subst (λ (x : g.row.M.Denot). Ok c.advance.result ≡ round_reply (stage_at key (g.M.Machine.means x) s.rounds s.settled)) p (c.advance.ensures.answer (inv.5 k) inv.1 inv.2) in
-    settled_all key m sizes a s f c.rounds.accepted _ ks kf so c.if-self.false inv.2 (ap (λ (r : Round). Ok r) (sym c.in_default.is) ∙ e) rounds inv.3 inv.4 in
+    let so = open_so t tt tt c.in_ok-still_open.ensures in
+    let after = c.advance.ensures.stage ∙ ap (λ (r : Round). stage_after (Ok r) (stage_of s)) c.in_default.is in
+    let last : stage_of f ≡ settled_at s.rounds t = after ∙ ap (settled_at s.rounds) inv.1 in
+    let rounds : f.rounds ≡ s.rounds = ap (λ (x : Stage). x.rounds) last in
+    let sound : (stage_of f).sound ≡ true = ap (λ (x : Stage). x.sound) last ∙ so.0 in
+    let count : f.parts ≡ block_count t.machine s.rounds = counted f sound ∙ ap (λ (x : Stage). block_count x.machine x.rounds) last in
+    let said = subst (λ (x : Stage). Ok c.advance.result ≡ round_reply x) inv.1 c.advance.ensures.answer in
+    let reply = settled_all t s.rounds (subst Known inv.1 (known s (sizes s.machine) (closes s.machine))) so.0 so.1 inv.2 _
+    (ap (λ (r : Round). Ok r) (sym c.in_default.is) ∙ said) f.parts count in
+    let answer : Ok (record { rounds = f.rounds - a.rounds + 1; count = f.parts }) ≡ settle_reply t =
+    ap (λ (n : ℕ). Ok (record { rounds = n - a.rounds + 1; count = f.parts })) rounds ∙ reply in
     record {
-      same = q;
+      same = c.advance.ensures.same ∙ inv.0;
       refused = tt;
-      stage =
-          after
-          ∙ ap (λ (x : g.row.M.Denot). settled_at s.rounds (stage_at key (g.M.Machine.means x) s.rounds s.settled)) p
-          ∙ ap (λ (n : ℕ). settled_at n t) (omega (arith, inv.3, inv.4));
-      kept = λ k. c.advance.ensures.kept (inv.5 k) inv.1 inv.2;
+      stage = last ∙ ap (λ (n : ℕ). settled_at n t) (omega (arith, rounds, inv.2));
       answer = answer;
-      means = λ k. settle_means t (known_of key m sizes (g.met.M.Machine.closed a.machine) a k) _ (answer k);
+      means = settle_means t (known a (sizes a.machine) (closes a.machine)) _ answer;
     }
+
+pub overflow_sub-result : goal.overflow_sub-result
+overflow_sub-result g c =
+    let s = c.rounds.self in
+    let after = c.advance.ensures.stage ∙ ap (λ (r : Round). stage_after (Ok r) (stage_of s)) c.in_default.is in
+    let rounds : c.advance.new.self.rounds ≡ s.rounds = ap (λ (x : Stage). x.rounds) after in
+    omega (arith, rounds, c.rounds.invariant.2)

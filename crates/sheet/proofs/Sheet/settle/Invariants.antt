@@ -1,15 +1,13 @@
-use Rattle.std.proofs.Common.{◌≡◌, ◌+◌, ◌-◌, ◌≤◌, true, false}
-use Rattle.sheet.specs.Kept.{Kept}
+use Rattle.std.proofs.Common.{◌≡◌, ◌-◌, ◌≤◌, false}
+use Rattle.sheet.specs.Stage.{at_round}
+use Rattle.sheet.specs.Standing.{stage_of}
 use Rattle.sheet.proofs.Sheet.settle.Given as goal
 
 abbrev pub invariant-rounds : goal.invariant-rounds
 invariant-rounds g l =
     (l.self.machine ≡ l.initial.self.machine)
-    × (l.self.sound ≡ true)
-    × (l.self.settled ≡ false)
-    × (l.self.rounds + 1 ≡ l.initial.self.rounds + l.accepted)
-    × (1 ≤ l.accepted)
-    × (Kept g.M.Machine g.M.Out.Output l.initial.self → Kept g.M.Machine g.M.Out.Output l.self)
+    × (stage_of l.self ≡ at_round l.self.rounds (stage_of l.initial.self))
+    × (l.initial.self.rounds ≤ l.self.rounds)
 
 abbrev pub decreases-rounds : goal.decreases-rounds
 decreases-rounds g l = 128 - l.self.rounds

@@ -1,5 +1,4 @@
 use Rattle.std.proofs.Common.{◌≡◌, ℕ, ◌*◌, ◌≤◌, true, List, [], ◌++◌, map, length, get_or, drop, Ok, Err, Result, sym, refl, ap, ◌∙◌, subst, mul-le-mul_right, arith}
-use Rattle.machine.specs.Theory.{mealy_of, sound_by}
 use Rattle.machine.proofs.Theory.{start_fits, sound_fits}
 use Rattle.mealy.specs.Mealy.{Mealy}
 use Rattle.mealy.specs.Partitions.{block, block_count}
@@ -8,62 +7,55 @@ use Rattle.sheet.specs.declared.answers.Refusal.{Refusal}
 use Rattle.sheet.specs.declared.answers.Refusal.TheVariants as refusal
 use Rattle.sheet.specs.declared.answers.Table.{Table}
 use Rattle.sheet.specs.declared.answers.TableBuffer.TheVariants as buffer
-use Rattle.sheet.specs.Kept.{Kept}
-use Rattle.sheet.specs.Stage.{Stage, stage_at, if_ok}
+use Rattle.sheet.specs.Stage.{Stage, if_ok}
+use Rattle.sheet.specs.Standing.{stage_of}
 use Rattle.sheet.specs.Tables.{cell_count, next_at, table_reply}
-use Rattle.sheet.proofs.Answering.{leaves, unsound, heard}
-use Rattle.sheet.proofs.Keeping.{kept_held, parts_are, known_of}
+use Rattle.sheet.proofs.Answering.{leaves, unsound, sound_so, heard, next_short, outputs_short, tabled}
+use Rattle.sheet.proofs.Keeping.{held, counted, known}
 use Rattle.sheet.proofs.Meaning.{table_means_at}
 use Rattle.std.proofs.lemmas.Bool.{cond-false}
 use Rattle.sheet.specs.Means.{TableMeans}
 use Rattle.sheet.specs.Steps.{Front}
-use Rattle.sheet.proofs.Answering.{next_short, outputs_short, tabled}
 use Rattle.sheet.proofs.Copying.{total_is}
 use Rattle.sheet.proofs.Tabling.{nexts_are}
+use Rattle.std.proofs.lemmas.Result.{err_from_is_err_and}
 use Rattle.sheet.proofs.Sheet.table.Goals as goal
+
+pub returns-in_err-heard : goal.returns-in_err-heard
+returns-in_err-heard g c =
+    let t : Stage = stage_of c.args.self.now in
+    let answer : Err c.in_err-heard.field-0.0 ≡ table_reply t (length c.args.next.now) (length c.args.outputs.now) =
+    unsound t tt _ _ c.in_err-heard.ensures in
+    let p = err_from_is_err_and c.from_residual.result c.from_residual.ensures.1 in
+    rw (p.1, p.2) (record { answer = answer; next = leaves _ _ _ _ answer; outputs = refl; means = tt })
 
 pub returns-then-not-self : goal.returns-then-not-self
 returns-then-not-self g c =
     let a = c.args.self.now in
-    let next = c.args.next.now in
-    let t : Stage = stage_at g.M.Out.Output.key (g.M.Machine.means a.machine) a.rounds a.settled in
-    let answer : Kept g.M.Machine g.M.Out.Output a → Err refusal.Unsound ≡ table_reply t (length next) (length c.args.outputs.now) = λ k. unsound t _ (sym k.sounds ∙ c.if-not-self.true) in
-    record { answer = answer; next = λ k. leaves _ _ _ _ (answer k); outputs = λ k. refl; means = λ k. tt }
-
-pub returns-then-not-self-2 : goal.returns-then-not-self-2
-returns-then-not-self-2 g c =
-    let a = c.args.self.now in
-    let next = c.args.next.now in
-    let t : Stage = stage_at g.M.Out.Output.key (g.M.Machine.means a.machine) a.rounds a.settled in
-    let answer : Kept g.M.Machine g.M.Out.Output a → Err refusal.Unsettled ≡ table_reply t (length next) (length c.args.outputs.now) = λ k.
-    sym (cond-false a.settled _ _ c.if-not-self-2.true) ∙ heard t _ (sym k.sounds ∙ c.if-not-self.false) in
-    record { answer = answer; next = λ k. leaves _ _ _ _ (answer k); outputs = λ k. refl; means = λ k. tt }
+    let t : Stage = stage_of a in
+    let answer : Err refusal.Unsettled ≡ table_reply t (length c.args.next.now) (length c.args.outputs.now) =
+    sym (cond-false a.settled _ _ c.if-not-self.true) ∙ heard t _ (sound_so t tt tt c.in_ok-heard.ensures) in
+    record { answer = answer; next = leaves _ _ _ _ answer; outputs = refl; means = tt }
 
 pub returns-then-next-total : goal.returns-then-next-total
 returns-then-next-total g c =
     let a = c.args.self.now in
-    let next = c.args.next.now in
-    let key = g.M.Out.Output.key in
-    let m = g.M.Machine.means a.machine in
-    let t : Stage = stage_at key m a.rounds a.settled in
-    let answer : Kept g.M.Machine g.M.Out.Output a → Err (refusal.ShortTable buffer.Next) ≡ table_reply t (length next) (length c.args.outputs.now) = λ k.
-    let so = sym k.sounds ∙ c.if-not-self.false in
-    let total = total_is a.parts (block_count (mealy_of key m) a.rounds) c.inputs.result m.inputs (parts_are key m a k so) c.inputs.ensures in
-    next_short t c.if-not-self-2.false (length next) (length c.args.outputs.now) (omega (arith, total)) ∙ heard t _ so in
-    record { answer = answer; next = λ k. leaves _ _ _ _ (answer k); outputs = λ k. refl; means = λ k. tt }
+    let t : Stage = stage_of a in
+    let so = sound_so t tt tt c.in_ok-heard.ensures in
+    let total = total_is a.parts (block_count t.machine a.rounds) c.inputs.result t.machine.inputs (counted a so) c.inputs.ensures in
+    let answer : Err (refusal.ShortTable buffer.Next) ≡ table_reply t (length c.args.next.now) (length c.args.outputs.now) =
+    next_short t c.if-not-self.false (length c.args.next.now) (length c.args.outputs.now) (omega (arith, total)) ∙ heard t _ so in
+    record { answer = answer; next = leaves _ _ _ _ answer; outputs = refl; means = tt }
 
 pub returns-then-outputs-total : goal.returns-then-outputs-total
 returns-then-outputs-total g c =
     let a = c.args.self.now in
-    let next = c.args.next.now in
-    let key = g.M.Out.Output.key in
-    let m = g.M.Machine.means a.machine in
-    let t : Stage = stage_at key m a.rounds a.settled in
-    let answer : Kept g.M.Machine g.M.Out.Output a → Err (refusal.ShortTable buffer.Outputs) ≡ table_reply t (length next) (length c.args.outputs.now) = λ k.
-    let so = sym k.sounds ∙ c.if-not-self.false in
-    let total = total_is a.parts (block_count (mealy_of key m) a.rounds) c.inputs.result m.inputs (parts_are key m a k so) c.inputs.ensures in
-    outputs_short t c.if-not-self-2.false (length next) (length c.args.outputs.now) (omega (arith, total)) (omega (arith, total)) ∙ heard t _ so in
-    record { answer = answer; next = λ k. leaves _ _ _ _ (answer k); outputs = λ k. refl; means = λ k. tt }
+    let t : Stage = stage_of a in
+    let so = sound_so t tt tt c.in_ok-heard.ensures in
+    let total = total_is a.parts (block_count t.machine a.rounds) c.inputs.result t.machine.inputs (counted a so) c.inputs.ensures in
+    let answer : Err (refusal.ShortTable buffer.Outputs) ≡ table_reply t (length c.args.next.now) (length c.args.outputs.now) =
+    outputs_short t c.if-not-self.false (length c.args.next.now) (length c.args.outputs.now) (omega (arith, total)) (omega (arith, total)) ∙ heard t _ so in
+    record { answer = answer; next = leaves _ _ _ _ answer; outputs = refl; means = tt }
 
 pub fill-requires : goal.fill-requires
 fill-requires g c =
@@ -84,33 +76,33 @@ pub returns : goal.returns
 returns g c =
     let a = c.args.self.now in
     let next : List ℕ = c.args.next.now in
+    let outs = c.args.outputs.now in
     let key = g.M.Out.Output.key in
     let m = g.M.Machine.means a.machine in
-    let N : Mealy = mealy_of key m in
     let sizes = g.met.M.Machine.sizes a.machine in
-    let t : Stage = stage_at key m a.rounds a.settled in
-    let outs = c.args.outputs.now in
-    let so : Kept g.M.Machine g.M.Out.Output a → sound_by m ≡ true = λ k. sym k.sounds ∙ c.if-not-self.false in
-    let total : Kept g.M.Machine g.M.Out.Output a → a.parts * c.inputs.result ≡ block_count N a.rounds * m.inputs = λ k.
-    total_is a.parts (block_count N a.rounds) c.inputs.result m.inputs (parts_are key m a k (so k)) c.inputs.ensures in
-    let class : Kept g.M.Machine g.M.Out.Output a → get_or (get_or a.rows a.rounds []) c.start-start.result 0 ≡ block N a.rounds m.start = λ k.
+    let closes = g.met.M.Machine.closed a.machine in
+    let t : Stage = stage_of a in
+    let N : Mealy = t.machine in
+    let so = sound_so t tt tt c.in_ok-heard.ensures in
+    let total = total_is a.parts (block_count N a.rounds) c.inputs.result N.inputs (counted a so) c.inputs.ensures in
+    let class : get_or (get_or a.rows a.rounds []) c.start-start.result 0 ≡ block N a.rounds m.start =
     ap (λ (x : ℕ). get_or (get_or a.rows a.rounds []) x 0) c.start-start.ensures
-    ∙ kept_held key m sizes a k a.rounds (omega arith) m.start (sound_fits m sizes (so k)).starts in
+    ∙ held a sizes a.rounds (omega arith) m.start (sound_fits m sizes so).starts in
     let made : Table = record { classes = a.parts; start = get_or (get_or a.rows a.rounds []) c.start-start.result 0 } in
-    let answer : Kept g.M.Machine g.M.Out.Output a → Ok made ≡ table_reply t (length next) (length outs) = λ k.
-    ap (λ (x : ℕ). Ok (record { classes = x; start = made.start })) (parts_are key m a k (so k))
-    ∙ ap (λ (x : ℕ). Ok (record { classes = block_count N a.rounds; start = x })) (class k)
-    ∙ tabled t c.if-not-self-2.false (length next) (length outs) (omega (arith, total k)) (omega (arith, total k)) ∙ heard t _ (so k) in
-    let front : (k : Kept g.M.Machine g.M.Out.Output a) → Front key m a.rounds (cell_count t) next outs c.fill.new.next c.fill.new.outputs = λ k.
-    subst (λ (x : ℕ). Front key m a.rounds x next outs c.fill.new.next c.fill.new.outputs) (total k)
-    (c.fill.ensures a.rounds (so k) (kept_held key m sizes a k a.rounds (omega arith)) (total k)) in
-    let wrote : Kept g.M.Machine g.M.Out.Output a → c.fill.new.next ≡ map (next_at N a.rounds) (range_with_len 0 (cell_count t)) ++ drop (cell_count t) next = λ k.
-    nexts_are N a.rounds (cell_count t) next c.fill.new.next (omega (arith, total k, (front k).next_size)) (front k).nexts (front k).next_rest in
+    let answer : Ok made ≡ table_reply t (length next) (length outs) =
+    ap (λ (x : ℕ). Ok (record { classes = x; start = made.start })) (counted a so)
+    ∙ ap (λ (x : ℕ). Ok (record { classes = block_count N a.rounds; start = x })) class
+    ∙ tabled t c.if-not-self.false (length next) (length outs) (omega (arith, total)) (omega (arith, total)) ∙ heard t _ so in
+    let front : Front key m a.rounds (cell_count t) next outs c.fill.new.next c.fill.new.outputs =
+    subst (λ (x : ℕ). Front key m a.rounds x next outs c.fill.new.next c.fill.new.outputs) total
+    (c.fill.ensures a.rounds so (held a sizes a.rounds (omega arith)) total) in
+    let wrote : c.fill.new.next ≡ map (next_at N a.rounds) (range_with_len 0 (cell_count t)) ++ drop (cell_count t) next =
+    nexts_are N a.rounds (cell_count t) next c.fill.new.next (omega (arith, total, front.next_size)) front.nexts front.next_rest in
     record {
       answer = answer;
-      next = λ k. wrote k ∙ ap (λ (x : Result Table Refusal). if_ok x (map (next_at N a.rounds) (range_with_len 0 (cell_count t)) ++ drop (cell_count t) next) next) (answer k);
-      outputs = λ k. (front k).outputs;
-      means = λ k.
-          subst (λ (x : List ℕ). TableMeans key t (Ok made) x c.fill.new.outputs) (sym (wrote k))
-          (table_means_at key m (g.met.M.Machine.closed a.machine) a.rounds a.settled (known_of key m sizes (g.met.M.Machine.closed a.machine) a k) (so k) c.if-not-self-2.false (drop (cell_count t) next) outs c.fill.new.outputs (front k).outputs made (parts_are key m a k (so k)) (class k));
+      next = wrote ∙ ap (λ (x : Result Table Refusal). if_ok x (map (next_at N a.rounds) (range_with_len 0 (cell_count t)) ++ drop (cell_count t) next) next) answer;
+      outputs = front.outputs;
+      means =
+          subst (λ (x : List ℕ). TableMeans key t (Ok made) x c.fill.new.outputs) (sym wrote)
+          (table_means_at key m closes a.rounds a.settled (known a sizes closes) so c.if-not-self.false (drop (cell_count t) next) outs c.fill.new.outputs front.outputs made (counted a so) class);
     }

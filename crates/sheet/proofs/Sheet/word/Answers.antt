@@ -1,110 +1,93 @@
-use Rattle.std.proofs.Common.{◌≡◌, ℕ, ◌<◌, List, ◌++◌, length, drop, Ok, Err, Result, sym, ap, ◌∙◌, ⊎_elim, arith}
-use Rattle.machine.specs.Theory.{mealy_of}
-use Rattle.machine.proofs.Theory.{few_states}
+use Rattle.std.proofs.Common.{◌≡◌, ℕ, ◌<◌, ◌≤◌, List, ◌++◌, length, drop, Some, None, Ok, Err, Result, sym, ap, ◌∙◌, arith}
 use Rattle.mealy.specs.FirstWord.{first_word, word_of}
 use Rattle.mealy.specs.Mealy.{Mealy}
 use Rattle.mealy.specs.Partitions.{parted}
 use Rattle.sheet.specs.declared.answers.Refusal.{Refusal}
 use Rattle.sheet.specs.declared.answers.Refusal.TheVariants as refusal
-use Rattle.sheet.specs.Kept.{Kept}
 use Rattle.sheet.specs.Replies.{word_at, word_reply, word_after}
-use Rattle.sheet.specs.Stage.{Stage, stage_at, if_ok}
-use Rattle.sheet.proofs.Answering.{leaves, unsound, heard, no_states, states, not_apart_at, short_at, word_at_lem}
-use Rattle.sheet.proofs.Keeping.{kept_held, parted_is, known_of}
+use Rattle.sheet.specs.Stage.{Stage, if_ok}
+use Rattle.sheet.specs.Standing.{stage_of}
+use Rattle.sheet.proofs.Answering.{leaves, no_states, states_so, heard, states, some_so, none_so, taken_is, not_apart_at, short_at, word_at_lem}
+use Rattle.sheet.proofs.Keeping.{held, known, parted_apart}
 use Rattle.sheet.proofs.Meaning.{word_means}
-use Rattle.sheet.proofs.Keeping.{parted_apart}
+use Rattle.std.proofs.lemmas.Result.{err_from_is_err_and}
 use Rattle.sheet.proofs.Sheet.word.Goals as goal
 
-pub returns-then-not-self : goal.returns-then-not-self
-returns-then-not-self g c =
+pub returns-in_err-found : goal.returns-in_err-found
+returns-in_err-found g c =
     let a = c.args.self.now in
-    let out = c.args.out.now in
-    let t : Stage = stage_at g.M.Out.Output.key (g.M.Machine.means a.machine) a.rounds a.settled in
-    let answer : Kept g.M.Machine g.M.Out.Output a → Err refusal.Unsound ≡ word_reply t c.args.s c.args.t (length out) = λ k. unsound t _ (sym k.sounds ∙ c.if-not-self.true) in
-    record { answer = answer; buffer = λ k. leaves _ _ _ _ (answer k); means = λ k. tt }
-
-pub returns-then-s-n : goal.returns-then-s-n
-returns-then-s-n g c =
-    let a = c.args.self.now in
-    let out = c.args.out.now in
-    let t : Stage = stage_at g.M.Out.Output.key (g.M.Machine.means a.machine) a.rounds a.settled in
-    let answer : Kept g.M.Machine g.M.Out.Output a → Err refusal.NoSuchState ≡ word_reply t c.args.s c.args.t (length out) = λ k.
-    no_states t _ c.args.s c.args.t (λ both. ⊎_elim (λ x. omega (arith, c.states-n.ensures)) (λ x. omega (arith, c.states-n.ensures)) c.then-s-n.either)
-    ∙ heard t _ (sym k.sounds ∙ c.if-not-self.false) in
-    record { answer = answer; buffer = λ k. leaves _ _ _ _ (answer k); means = λ k. tt }
-
-pub returns-then-j-self : goal.returns-then-j-self
-returns-then-j-self g c =
-    let a = c.args.self.now in
+    let t : Stage = stage_of a in
     let out : List ℕ = c.args.out.now in
-    let key = g.M.Out.Output.key in
-    let m = g.M.Machine.means a.machine in
-    let sizes = g.met.M.Machine.sizes a.machine in
-    let t : Stage = stage_at key m a.rounds a.settled in
-    let ls : c.args.s < m.states = omega (arith, c.states-n.ensures) in
-    let lt : c.args.t < m.states = omega (arith, c.states-n.ensures) in
-    let answer : Kept g.M.Machine g.M.Out.Output a → Err refusal.NotApart ≡ word_reply t c.args.s c.args.t (length out) = λ k.
-    let is = c.first_apart-j.ensures ∙ parted_is key m sizes a k c.args.s c.args.t ls lt in
-    not_apart_at a.rounds (length out) c.first_apart-j.result c.if-j-self.true ∙ ap (word_at a.rounds (length out)) is
-    ∙ states t _ c.args.s c.args.t ls lt ∙ heard t _ (sym k.sounds ∙ c.if-not-self.false) in
-    let buffer : Kept g.M.Machine g.M.Out.Output a → out ≡ word_after t c.args.s c.args.t out = λ k. leaves _ _ _ _ (answer k) in
-    record { answer = answer; buffer = buffer; means = λ k. word_means t (known_of key m sizes (g.met.M.Machine.closed a.machine) a k) c.args.s c.args.t out _ _ (answer k) (buffer k) }
+    let answer : Err c.in_err-found.field-0.0 ≡ word_reply t c.args.s c.args.t (length out) =
+    no_states t _ _ _ c.args.s c.args.t c.in_err-found.ensures in
+    let buffer : out ≡ word_after t c.args.s c.args.t out = leaves _ _ _ _ answer in
+    let p = err_from_is_err_and c.from_residual.result c.from_residual.ensures.1 in
+    rw (p.1, p.2) (record { answer = answer; buffer = buffer; means = word_means t (known a (g.met.M.Machine.sizes a.machine) (g.met.M.Machine.closed a.machine)) c.args.s c.args.t out _ _ answer buffer })
+
+pub returns-in_err-j : goal.returns-in_err-j
+returns-in_err-j g c =
+    let a = c.args.self.now in
+    let t : Stage = stage_of a in
+    let out : List ℕ = c.args.out.now in
+    let is = states_so t _ _ c.args.s c.args.t c.in_ok-found.ensures in
+    let none = none_so _ _ _ c.in_err-j.ensures.value in
+    let answer : Err c.in_err-j.field-0.0 ≡ word_reply t c.args.s c.args.t (length out) =
+    ap (λ (x : Refusal). Err x) none.1 ∙ not_apart_at a.rounds (length out) (parted t.machine a.rounds c.args.s c.args.t) (none.0 ∙ is.3)
+    ∙ states t _ c.args.s c.args.t is.1 is.2 ∙ heard t _ is.0 in
+    let buffer : out ≡ word_after t c.args.s c.args.t out = leaves _ _ _ _ answer in
+    let p = err_from_is_err_and c.from_residual-in_err-j.result c.from_residual-in_err-j.ensures.1 in
+    rw (p.1, p.2) (record { answer = answer; buffer = buffer; means = word_means t (known a (g.met.M.Machine.sizes a.machine) (g.met.M.Machine.closed a.machine)) c.args.s c.args.t out _ _ answer buffer })
 
 pub returns-then-out-j : goal.returns-then-out-j
 returns-then-out-j g c =
     let a = c.args.self.now in
+    let t : Stage = stage_of a in
     let out : List ℕ = c.args.out.now in
-    let key = g.M.Out.Output.key in
-    let m = g.M.Machine.means a.machine in
-    let sizes = g.met.M.Machine.sizes a.machine in
-    let t : Stage = stage_at key m a.rounds a.settled in
-    let ls : c.args.s < m.states = omega (arith, c.states-n.ensures) in
-    let lt : c.args.t < m.states = omega (arith, c.states-n.ensures) in
-    let answer : Kept g.M.Machine g.M.Out.Output a → Err (refusal.Short c.first_apart-j.result) ≡ word_reply t c.args.s c.args.t (length out) = λ k.
-    let is = c.first_apart-j.ensures ∙ parted_is key m sizes a k c.args.s c.args.t ls lt in
-    short_at a.rounds (length out) c.first_apart-j.result c.if-j-self.false c.if-out-j.true ∙ ap (word_at a.rounds (length out)) is
-    ∙ states t _ c.args.s c.args.t ls lt ∙ heard t _ (sym k.sounds ∙ c.if-not-self.false) in
-    let buffer : Kept g.M.Machine g.M.Out.Output a → out ≡ word_after t c.args.s c.args.t out = λ k. leaves _ _ _ _ (answer k) in
-    record { answer = answer; buffer = buffer; means = λ k. word_means t (known_of key m sizes (g.met.M.Machine.closed a.machine) a k) c.args.s c.args.t out _ _ (answer k) (buffer k) }
+    let is = states_so t _ _ c.args.s c.args.t c.in_ok-found.ensures in
+    let at = taken_is a.rounds (parted t.machine a.rounds c.args.s c.args.t) c.in_ok-j.j (some_so _ _ _ c.in_ok-j.ensures.value ∙ is.3) in
+    let answer : Err (refusal.Short c.in_ok-j.j) ≡ word_reply t c.args.s c.args.t (length out) =
+    short_at a.rounds (length out) c.in_ok-j.j (omega (arith, at.0, at.1)) c.if-out-j.true ∙ ap (word_at a.rounds (length out)) at.0
+    ∙ states t _ c.args.s c.args.t is.1 is.2 ∙ heard t _ is.0 in
+    let buffer : out ≡ word_after t c.args.s c.args.t out = leaves _ _ _ _ answer in
+    record { answer = answer; buffer = buffer; means = word_means t (known a (g.met.M.Machine.sizes a.machine) (g.met.M.Machine.closed a.machine)) c.args.s c.args.t out _ _ answer buffer }
+
+pub spell-requires : goal.spell-requires
+spell-requires g c =
+    let a = c.args.self.now in
+    let t : Stage = stage_of a in
+    let is = states_so t _ _ c.args.s c.args.t c.in_ok-found.ensures in
+    let at = taken_is a.rounds (parted t.machine a.rounds c.args.s c.args.t) c.in_ok-j.j (some_so _ _ _ c.in_ok-j.ensures.value ∙ is.3) in
+    record { room = (omega (arith, at.0, at.1, a.early, a.few), c.if-out-j.false) }
 
 pub returns : goal.returns
 returns g c =
     let a = c.args.self.now in
-    let out : List ℕ = c.args.out.now in
-    let key = g.M.Out.Output.key in
-    let m = g.M.Machine.means a.machine in
-    let N : Mealy = mealy_of key m in
+    let t : Stage = stage_of a in
+    let N : Mealy = t.machine in
     let sizes = g.met.M.Machine.sizes a.machine in
-    let t : Stage = stage_at key m a.rounds a.settled in
+    let out : List ℕ = c.args.out.now in
     let s : ℕ = c.args.s in
     let u : ℕ = c.args.t in
-    let j : ℕ = c.first_apart-j.result in
-    let ls : s < m.states = omega (arith, c.states-n.ensures) in
-    let lt : u < m.states = omega (arith, c.states-n.ensures) in
-    let is : Kept g.M.Machine g.M.Out.Output a → j ≡ parted N a.rounds s u = λ k.
-    c.first_apart-j.ensures ∙ parted_is key m sizes a k s u ls lt in
-    let answer : Kept g.M.Machine g.M.Out.Output a → Ok j ≡ word_reply t s u (length out) = λ k.
-    word_at_lem a.rounds (length out) j c.if-j-self.false c.if-out-j.false ∙ ap (word_at a.rounds (length out)) (is k)
-    ∙ states t _ s u ls lt ∙ heard t _ (sym k.sounds ∙ c.if-not-self.false) in
-    let wrote : Kept g.M.Machine g.M.Out.Output a → c.spell.new.out ≡ word_of N a.rounds s u ++ drop (length (word_of N a.rounds s u)) out = λ k.
+    let j : ℕ = c.in_ok-j.j in
+    let is = states_so t _ _ s u c.in_ok-found.ensures in
+    let at = taken_is a.rounds (parted N a.rounds s u) j (some_so _ _ _ c.in_ok-j.ensures.value ∙ is.3) in
+    let early : j ≤ a.rounds = omega (arith, at.0, at.1) in
+    let answer : Ok j ≡ word_reply t s u (length out) =
+    word_at_lem a.rounds (length out) j early c.if-out-j.false ∙ ap (word_at a.rounds (length out)) at.0
+    ∙ states t _ s u is.1 is.2 ∙ heard t _ is.0 in
+    let wrote : c.spell.new.out ≡ word_of N a.rounds s u ++ drop (length (word_of N a.rounds s u)) out =
     c.spell.ensures (record {
-      sound = sym k.sounds ∙ c.if-not-self.false;
-      left = ls;
-      right = lt;
-      held = λ i h. kept_held key m sizes a k i (omega arith);
-      apart = parted_apart N a.rounds s u j (is k) c.if-j-self.false;
+      sound = is.0;
+      left = is.1;
+      right = is.2;
+      held = λ i h. held a sizes i (omega arith);
+      apart = parted_apart N a.rounds s u j at.0 early;
     })
-    ∙ ap (λ (x : ℕ). first_word N x s u ++ drop (length (first_word N x s u)) out) (is k) in
-    let buffer : Kept g.M.Machine g.M.Out.Output a → c.spell.new.out ≡ word_after t s u out = λ k.
-    wrote k ∙ ap (λ (x : Result ℕ Refusal). if_ok x (word_of N a.rounds s u ++ drop (length (word_of N a.rounds s u)) out) out) (answer k) in
+    ∙ ap (λ (x : ℕ). first_word N x s u ++ drop (length (first_word N x s u)) out) at.0 in
+    let buffer : c.spell.new.out ≡ word_after t s u out =
+    wrote ∙ ap (λ (x : Result ℕ Refusal). if_ok x (word_of N a.rounds s u ++ drop (length (word_of N a.rounds s u)) out) out) answer in
     record {
       answer = answer;
       buffer = buffer;
-      means = λ k. word_means t (known_of key m sizes (g.met.M.Machine.closed a.machine) a k) s u out _ _ (answer k) (buffer k);
+      means = word_means t (known a sizes (g.met.M.Machine.closed a.machine)) s u out _ _ answer buffer;
     }
-
-pub first_apart-j-requires : goal.first_apart-j-requires
-first_apart-j-requires g c =
-    let a = c.args.self.now in
-    let fits = few_states (g.M.Machine.means a.machine) (g.met.M.Machine.sizes a.machine) in
-    (omega (arith, a.early, a.few), omega (arith, c.states-n.ensures), omega (arith, c.states-n.ensures))
