@@ -1,6 +1,5 @@
-use Rattle.std.proofs.Common.{ℕ, Ok, refl, ap, ◌∙◌, arith}
+use Rattle.std.proofs.Common.{ℕ, Ok, ap, ◌∙◌, arith}
 use Rattle.sheet.specs.declared.answers.Round.TheVariants as round
-use Rattle.sheet.specs.Stage.{Stage}
 use Rattle.sheet.specs.Standing.{stage_of}
 use Rattle.sheet.proofs.Answering.{settles, splits}
 use Rattle.sheet.proofs.Keeping.{counted, kept_settled, kept_split, next_is, no_more, some_more}
@@ -13,16 +12,12 @@ invariant_of-self g c =
     let done = no_more a (g.met.M.Machine.sizes a.machine) so _ _ c.refine-refined.ensures.next c.if-refined-self.true in
     record { early = a.early; few = a.few; kept = kept_settled a so done }
 
-pub returns-then-refined-self : goal.returns-then-refined-self
-returns-then-refined-self g c =
+pub returns-then-refined-self-clause-answer : goal.returns-then-refined-self-clause-answer
+returns-then-refined-self-clause-answer g c =
     let a = c.args.self.now in
     let so = c.requires.sound in
     let done = no_more a (g.met.M.Machine.sizes a.machine) so _ _ c.refine-refined.ensures.next c.if-refined-self.true in
-    record {
-      same = refl;
-      stage = refl;
-      answer = ap (λ (x : ℕ). Ok (round.Settled x)) (counted a so) ∙ settles (stage_of a) so c.requires.unsettled done;
-    }
+    ap (λ (x : ℕ). Ok (round.Settled x)) (counted a so) ∙ settles (stage_of a) so c.requires.unsettled done
 
 pub invariant_of-self-2 : goal.invariant_of-self-2
 invariant_of-self-2 g c =
@@ -39,16 +34,11 @@ invariant_of-self-2 g c =
           (some_more a sizes so _ _ made c.if-refined-self.false) next.0 next.1;
     }
 
-pub returns : goal.returns
-returns g c =
+pub returns-clause-answer : goal.returns-clause-answer
+returns-clause-answer g c =
     let a = c.args.self.now in
     let so = c.requires.sound in
     let sizes = g.met.M.Machine.sizes a.machine in
     let made = c.refine-refined.ensures.next in
-    record {
-      same = refl;
-      stage = refl;
-      answer =
-          ap (λ (x : ℕ). Ok (round.Split x)) (next_is a sizes so _ _ made).1
-          ∙ splits (stage_of a) so c.requires.unsettled (some_more a sizes so _ _ made c.if-refined-self.false);
-    }
+    ap (λ (x : ℕ). Ok (round.Split x)) (next_is a sizes so _ _ made).1
+    ∙ splits (stage_of a) so c.requires.unsettled (some_more a sizes so _ _ made c.if-refined-self.false)

@@ -1,4 +1,4 @@
-use Rattle.std.proofs.Common.{◌≡◌, ℕ, List, [], ◌++◌, length, get_or, take, drop, Ok, Err, Result, sym, ap, ◌∙◌, arith}
+use Rattle.std.proofs.Common.{◌≡◌, ℕ, List, [], ◌++◌, length, get_or, take, drop, Ok, Err, Result, ap, ◌∙◌, arith}
 use Rattle.machine.proofs.Theory.{few_states}
 use Rattle.mealy.specs.Mealy.{Mealy}
 use Rattle.mealy.specs.Partitions.{blocks}

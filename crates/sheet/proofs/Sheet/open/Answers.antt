@@ -1,4 +1,4 @@
-use Rattle.std.proofs.Common.{is_ok, refl, ◌∙◌, arith}
+use Rattle.std.proofs.Common.{is_ok, ◌∙◌, arith}
 use Rattle.machine.specs.Theory.{sound_by}
 use Rattle.machine.proofs.Theory.{sound_decides, tests_agree}
 use Rattle.sheet.proofs.Keeping.{kept_fresh}
@@ -16,7 +16,5 @@ invariant_of-result g c =
           (c.is_ok-sound.ensures.value ∙ tests_agree (is_ok c.check.result) (sound_by m) _ c.check.ensures.accepts decides) c.blank.ensures;
     }
 
-pub returns : goal.returns
-returns g c =
-    let x = c.args.machine in
-    record { same = refl; stage = refl; sound = sound_decides (g.M.Machine.means x) (g.met.M.Machine.sizes x) }
+pub returns-clause-sound : goal.returns-clause-sound
+returns-clause-sound g c = sound_decides (g.M.Machine.means c.args.machine) (g.met.M.Machine.sizes c.args.machine)

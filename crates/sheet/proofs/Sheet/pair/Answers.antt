@@ -1,4 +1,4 @@
-use Rattle.std.proofs.Common.{◌≡◌, Some, None, Ok, Err, sym, ap, ◌∙◌, arith}
+use Rattle.std.proofs.Common.{◌≡◌, Ok, sym, ap, ◌∙◌, arith}
 use Rattle.std.proofs.lemmas.Result.{err_from_is_err_and}
 use Rattle.mealy.specs.Partitions.{parted}
 use Rattle.sheet.specs.declared.answers.Pair.{Pair}
@@ -11,10 +11,10 @@ use Rattle.sheet.proofs.Keeping.{known}
 use Rattle.sheet.proofs.Meaning.{pair_means}
 use Rattle.sheet.proofs.Sheet.pair.Goals as goal
 
-pub returns-in_err-j : goal.returns-in_err-j
-returns-in_err-j g c =
+pub returns-in_err-j-clause-answer : goal.returns-in_err-j-clause-answer
+returns-in_err-j-clause-answer g c =
     let p = err_from_is_err_and c.from_residual.result c.from_residual.ensures.1 in
-    rw (p.1, p.2) (record { answer = no_states (stage_of c.args.self.now) _ _ _ c.args.s c.args.t c.in_err-j.ensures; means = tt })
+    rw (p.1, p.2) (no_states (stage_of c.args.self.now) _ _ _ c.args.s c.args.t c.in_err-j.ensures)
 
 pub overflow_cast-result : goal.overflow_cast-result
 overflow_cast-result g c =

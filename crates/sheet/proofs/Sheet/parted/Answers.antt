@@ -1,4 +1,4 @@
-use Rattle.std.proofs.Common.{◌≡◌, ◌<◌, Ok, Err, sym, ap, ◌∙◌, ⊎_elim, arith}
+use Rattle.std.proofs.Common.{◌<◌, Ok, ap, ◌∙◌, ⊎_elim, arith}
 use Rattle.machine.proofs.Theory.{few_states}
 use Rattle.sheet.specs.Stage.{Stage}
 use Rattle.sheet.specs.Standing.{stage_of}

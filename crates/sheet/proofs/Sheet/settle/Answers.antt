@@ -1,4 +1,4 @@
-use Rattle.std.proofs.Common.{◌≡◌, ℕ, ◌+◌, ◌-◌, true, false, Ok, sym, refl, ap, ◌∙◌, subst, arith}
+use Rattle.std.proofs.Common.{◌≡◌, ℕ, ◌+◌, ◌-◌, true, Ok, sym, ap, ◌∙◌, subst, arith}
 use Rattle.mealy.specs.Partitions.{block_count}
 use Rattle.sheet.specs.declared.answers.Round.{Round}
 use Rattle.sheet.specs.Replies.{round_reply, settle_reply}
@@ -11,13 +11,10 @@ use Rattle.sheet.proofs.Meaning.{settle_means}
 use Rattle.std.proofs.lemmas.Result.{err_from_is_err_and}
 use Rattle.sheet.proofs.Sheet.settle.Goals as goal
 
-pub returns-in_err-still_open : goal.returns-in_err-still_open
-returns-in_err-still_open g c =
+pub returns-in_err-still_open-clause-answer : goal.returns-in_err-still_open-clause-answer
+returns-in_err-still_open-clause-answer g c =
     let p = err_from_is_err_and c.from_residual.result c.from_residual.ensures.1 in
-    rw (p.1, p.2) (record { same = refl; refused = refl; stage = refl; answer = closed (stage_of c.args.self.now) tt _ _ c.in_err-still_open.ensures; means = tt })
-
-pub rounds-init : goal.rounds-init
-rounds-init g c = (refl, refl, omega arith)
+    rw (p.1, p.2) (closed (stage_of c.args.self.now) tt _ _ c.in_err-still_open.ensures)
 
 pub advance-requires : goal.advance-requires
 advance-requires g c =

@@ -1,4 +1,4 @@
-use Rattle.std.proofs.Common.{◌≡◌, ◌-◌, ◌≤◌, false}
+use Rattle.std.proofs.Common.{◌≡◌, ◌-◌, ◌≤◌}
 use Rattle.sheet.specs.Stage.{at_round}
 use Rattle.sheet.specs.Standing.{stage_of}
 use Rattle.sheet.proofs.Sheet.settle.Given as goal
