@@ -8,4 +8,4 @@ returns-in_err-elapsed g c =
     let p = err_from_is_err_and c.from_residual-in_err-elapsed.result c.from_residual-in_err-elapsed.ensures.1 in rw p.1 tt
 
 pub returns : goal.returns
-returns g c = c.in-Ok.ensures.answer c.open-sheet.ensures.kept ∙ ap settle_reply c.open-sheet.ensures.stage
+returns g c = c.in-Ok.ensures.answer ∙ ap settle_reply c.open-sheet.ensures.stage
