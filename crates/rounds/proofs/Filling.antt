@@ -4,7 +4,7 @@ use Rattle.std.proofs.lemmas.List.{length-set, get_or-set_other, get_or-replicat
 use Rattle.mealy.specs.Below.{count}
 use Rattle.mealy.proofs.Counts.{count_le}
 use Rattle.rounds.specs.Joining.{lead_of, lead_by, number_by}
-use Rattle.rounds.proofs.Numbering.{place_joins, place_leads, count_joins, count_leads, leads_joins, leads_leads}
+use Rattle.rounds.proofs.Leading.{place_joins, place_leads, count_joins, count_leads, leads_joins, leads_leads}
 
 -- The first s places have their numbers and say who leads, and the rest is as it was.
 pub record Filled (p : ℕ → ℕ → Bool) (s : ℕ) (row : List ℕ) (leads : List Bool) (begun : ℕ) : Type 0 where

@@ -23,10 +23,18 @@ module _ {O F : Type 0} (key : O → List ℤ) (prev : List ℕ) where
   cells_join_lem (Ok a) (Err e) h k = absurd (true≢false (sym k))
   cells_join_lem (Err e) y h k = absurd (true≢false (sym h))
 
-  pub join_ok : (x y : Result (Cell O) F) (a b : Cell O) → Ok a ≡ x → Ok b ≡ y
+  join_ok : (x y : Result (Cell O) F) (a b : Cell O) → Ok a ≡ x → Ok b ≡ y
       → cells_join key prev x y
       ≡ (same_key (key a.output) (key b.output) && eqb (get_or prev a.next 0) (get_or prev b.next 0))
   join_ok x y a b p q = ap (λ z. cells_join key prev z y) (sym p) ∙ ap (λ z. cells_join key prev (Ok a) z) (sym q)
+
+  -- by the answer whether their outputs are alike,
+  pub join_alike : (x y : Result (Cell O) F) (a b : Cell O) → Ok a ≡ x → Ok b ≡ y
+      → (same : Bool) → Decides same (key a.output ≡ key b.output)
+      → cells_join key prev x y ≡ (same && eqb (get_or prev a.next 0) (get_or prev b.next 0))
+  join_alike x y a b p q same alike =
+      join_ok x y a b p q
+      ∙ ap (λ r. r && eqb (get_or prev a.next 0) (get_or prev b.next 0)) (sym (alike_is same (key a.output) (key b.output) alike))
 
   -- and joining is transitive.
   cells_trans : (x y z : Result (Cell O) F) → cells_join key prev x y ≡ true → cells_join key prev y z ≡ true

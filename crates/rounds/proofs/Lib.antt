@@ -1,5 +1,6 @@
 pub mod Passes
-pub mod Numbering
+pub mod Firsts
+pub mod Leading
 pub mod Joining
 pub mod Filling
 pub mod Rows

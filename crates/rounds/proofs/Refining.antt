@@ -16,7 +16,7 @@ use Rattle.mealy.proofs.Share.{share_down}
 use Rattle.rounds.specs.Joining.{joins_at, joins, finer, lead_by, number_by}
 use Rattle.rounds.specs.Rows.{Numbered}
 use Rattle.rounds.proofs.Passes.{every_same, lowest_same}
-use Rattle.rounds.proofs.Numbering.{number_agrees, leads_agree}
+use Rattle.rounds.proofs.Leading.{number_agrees, leads_agree}
 use Rattle.rounds.proofs.Joining.{cells_join_lem}
 
 -- Equal numbers, as a test, are a shared block.

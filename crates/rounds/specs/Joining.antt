@@ -1,8 +1,9 @@
 -- One round over any numbering of the states.
 --   cells_join, joins_at, joins   two entries, or two states at an input or at all, go alike by the numbering
 --   finer                         two states have one number, and join
+--   some_below                    a number where it is below a limit
 --   lead_of, lead_by, number_by   the blocks that a test of two states makes, numbered by their lowest states
-use Rattle.std.specs.Prelude.{ℕ, Bool, false, ◌&&◌, List, ℤ, Ok, Err, Result, ◌==◌, slice_index}
+use Rattle.std.specs.Prelude.{ℕ, Bool, false, cond, ◌&&◌, List, ℤ, Some, None, Option, Ok, Err, Result, ◌==◌, nat_lt, slice_index}
 use Rattle.machine.specs.Meaning.{Meaning}
 use Rattle.machine.specs.declared.Cell.{Cell}
 use Rattle.mealy.specs.Below.{every, lowest, count}
@@ -27,6 +28,10 @@ module _ {O F : Type 0} (key : O → List ℤ) where
   -- and have one number besides
   abbrev pub finer : Meaning O F → List ℕ → ℕ → ℕ → Bool
   finer m prev s t = slice_index prev s == slice_index prev t && joins m prev s t
+
+-- x where it is below n: of the lowest number that passes, that one does
+abbrev pub some_below : ℕ → ℕ → Option ℕ
+some_below n x = cond (nat_lt x n) (Some x) None
 
 -- the lowest state that s joins, or s
 abbrev pub lead_of : (ℕ → ℕ → Bool) → ℕ → ℕ

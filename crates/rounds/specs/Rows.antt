@@ -3,12 +3,13 @@
 --   Numbered           a row holds the numbers of P j
 --   Refines            from them a round makes the row and the block count of P (j + 1)
 --   FirstInput         by them the first input that sets two states apart
-use Rattle.std.specs.Prelude.{◌≡◌, ℕ, suc, ◌<◌, true, cond, List, map, ℤ, nat_lt, slice_index}
+use Rattle.std.specs.Prelude.{◌≡◌, ℕ, suc, ◌<◌, true, cond, List, map, ℤ, Option, nat_lt, slice_index}
 use Rattle.machine.specs.Meaning.{Meaning}
 use Rattle.machine.specs.Theory.{mealy_of, sound_by}
 use Rattle.mealy.specs.FirstWord.{first_input}
 use Rattle.mealy.specs.Mealy.{Mealy}
 use Rattle.mealy.specs.Partitions.{block, block_count}
+use Rattle.rounds.specs.Joining.{some_below}
 use Rattle.std.specs.List.{range_with_len}
 
 -- the number of a state's block, and 0 past the states
@@ -30,8 +31,8 @@ module _ {O F : Type 0} (key : O → List ℤ) (m : Meaning O F) where
       (j : ℕ) → sound_by m ≡ true → Numbered (mealy_of key m) j prev
       → (row ≡ row_of (mealy_of key m) (suc j)) × (parts ≡ block_count (mealy_of key m) (suc j))
 
-  -- by the numbers of P j of a sound machine, i is the first input that sets its states s and t apart
-  abbrev pub FirstInput : List ℕ → ℕ → ℕ → ℕ → Type 0
-  FirstInput prev s t i =
+  -- by the numbers of P j of a sound machine, found is the first input that sets its states s and t apart, or none does
+  abbrev pub FirstInput : List ℕ → ℕ → ℕ → Option ℕ → Type 0
+  FirstInput prev s t found =
       (j : ℕ) → sound_by m ≡ true → Numbered (mealy_of key m) j prev → s < m.states → t < m.states
-      → i ≡ first_input (mealy_of key m) j s t
+      → found ≡ some_below m.inputs (first_input (mealy_of key m) j s t)

@@ -1,8 +1,11 @@
 -- Lists written from the front.
-use Rattle.std.proofs.Common.{◌≡◌, ℕ, zero, suc, ◌+◌, ◌*◌, ◌/◌, ◌<◌, ◌≤◌, List, [], ◌∷◌, ◌++◌, length, get_or, take, drop, set, Some, sym, refl, ap, ◌∙◌, ⊎_elim, div-lt_iff_lt-mul, mul-zero, arith}
-use Rattle.std.specs.List.{slice_get}
-use Rattle.std.proofs.lemmas.List.{drop_more, set_at, length-take-le, take_more, append_assoc, drop-set-lt, drop-drop}
+use Rattle.std.proofs.Common.{◌≡◌, ℕ, zero, suc, ◌+◌, ◌*◌, ◌/◌, ◌<◌, ◌≤◌, true, false, eqb, List, [], ◌∷◌, ◌++◌, length, get_or, take, drop, set, Option, Some, None, MatchOption, sym, refl, ap, ◌∙◌, subst, ⊎_elim, div-lt_iff_lt-mul, mul-zero, arith}
+use Rattle.std.specs.List.{slice_get, AllWithin, HoldsAt}
+use Rattle.std.proofs.lemmas.List.{drop_more, set_at, length-take-le, get_or-take, take_more, append_assoc, drop-set-lt, drop-drop}
 use Rattle.std.proofs.lemmas.Bool.{cases_lt}
+use Rattle.mealy.specs.Below.{lowest}
+use Rattle.rounds.specs.Joining.{some_below}
+use Rattle.rounds.proofs.Firsts.{lowest_is_found}
 
 -- One more place of one list over another.
 pub front_more : {X : Type 0} (xs ys : List X) (i : ℕ) (d : X) → i < length xs → i < length ys
@@ -42,3 +45,20 @@ some_width x b k h =
 -- A product of equal numbers.
 pub total_is : (a b x y : ℕ) → a ≡ b → x ≡ y → a * x ≡ b * y
 total_is a b x y e f = ap (λ (z : ℕ). z * x) e ∙ ap (λ (z : ℕ). b * z) f
+
+-- What was found in the front of a row is the lowest place.
+pub place_is_found : (row : List ℕ) (n c : ℕ) (found : Option ℕ) → n ≤ length row
+    → MatchOption found (AllWithin (λ x. eqb x c ≡ false) (take n row) 0 (length (take n row)))
+    (λ i. (i < length (take n row)) × HoldsAt (λ x. eqb x c ≡ true) (take n row) i × AllWithin (λ x. eqb x c ≡ false) (take n row) 0 i)
+    → found ≡ some_below n (lowest n (λ s. eqb (get_or row s 0) c))
+place_is_found row n c None room none =
+    lowest_is_found n (λ s. eqb (get_or row s 0) c) None
+    (λ k z l. subst (λ (x : ℕ). eqb x c ≡ false) (get_or-take n row k 0 l) (none k 0 z (omega (arith, length-take-le n row room))))
+place_is_found row n c (Some i) room (l, here, first) =
+    let low : i < n = omega (arith, length-take-le n row room) in
+    lowest_is_found n (λ s. eqb (get_or row s 0) c) (Some i) (
+      omega arith,
+      low,
+      subst (λ (x : ℕ). eqb x c ≡ true) (get_or-take n row i 0 low) (here 0),
+      λ k z b. subst (λ (x : ℕ). eqb x c ≡ false) (get_or-take n row k 0 (omega arith)) (first k 0 z b),
+    )

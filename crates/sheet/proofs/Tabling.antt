@@ -1,5 +1,5 @@
 -- The table written is the machine of the blocks.
-use Rattle.std.proofs.Common.{◌≡◌, ℕ, ◌+◌, ◌*◌, ◌/◌, ◌%◌, ◌<◌, ◌≤◌, true, eqb, List, [], ◌∷◌, ◌++◌, map, length, get_or, take, drop, set, ℤ, is_ok, Ok, Err, Result, sym, refl, ap, ◌∙◌, subst, mod-lt, arith, below_more}
+use Rattle.std.proofs.Common.{◌≡◌, ℕ, ◌+◌, ◌*◌, ◌/◌, ◌%◌, ◌<◌, ◌≤◌, true, eqb, List, [], ◌∷◌, ◌++◌, map, length, get_or, take, drop, set, ℤ, Option, None, is_ok, Ok, Err, Result, sym, refl, ap, ◌∙◌, subst, mod-lt, arith, below_more}
 use lib.Arith.{digits_div, digits_mod}
 use Rattle.std.specs.List.{slice_get, range_with_len}
 use Rattle.std.proofs.lemmas.Nat.{mul-add-lt}
@@ -18,7 +18,9 @@ use Rattle.mealy.specs.Reduced.{leader_of, reduced, Smallest}
 use Rattle.mealy.specs.Words.{Word, Equivalent}
 use Rattle.mealy.proofs.Reduced.{leader_of_is, reduced_closed, reduced_is_equivalent, reduced_is_smallest, block_equivalent}
 use Rattle.mealy.proofs.Telling.{AnswerAlike, answers_equivalent, equivalent_answers}
+use Rattle.rounds.specs.Joining.{some_below}
 use Rattle.rounds.specs.Rows.{Numbered}
+use Rattle.rounds.proofs.Firsts.{below_none}
 use Rattle.rounds.proofs.Passes.{lowest_same}
 use Rattle.sheet.specs.Steps.{Front}
 use Rattle.sheet.specs.Tables.{next_at, output_of, OutputsWritten, key_at, table_mealy}
@@ -33,6 +35,15 @@ module _ {O F : Type 0} (key : O → List ℤ) (m : Meaning O F) (closed : meani
   -- The first state with the number of a class leads it.
   first_leads : (c : ℕ) → lowest m.states (λ s. eqb (get_or row s 0) c) ≡ leader_of N j c
   first_leads c = lowest_same m.states _ _ (λ s l. ap (λ (x : ℕ). eqb x c) (held s l))
+
+  -- Some state leads the class at place x.
+  pub some_state : (x : ℕ) → x < block_count N j * m.inputs
+      → some_below m.states (lowest m.states (λ u. eqb (get_or row u 0) (x / m.inputs))) ≡ None → ⊥
+  some_state x low none =
+      let over : m.states ≤ leader_of N j (x / m.inputs) =
+      subst (λ (y : ℕ). m.states ≤ y) (first_leads (x / m.inputs)) (below_none m.states _ none) in
+      let at = leader_of_is N j (x / m.inputs) (row_below x m.inputs (block_count N j) (some_width x (block_count N j) m.inputs low) low) in
+      omega (arith, at.0)
 
   -- The state whose cell stands at place x, and its input.
   module _ (x s : ℕ) (low : x < block_count N j * m.inputs) (is : s ≡ lowest m.states (λ u. eqb (get_or row u 0) (x / m.inputs))) where
@@ -160,7 +171,9 @@ next_read N j n rest y h =
     ∙ get_or-map-range_with_len (next_at N j) 0 n y y 0 h (omega arith)
 
 -- The state found, by the machine's own counts.
-pub found_as : (row : List ℕ) (x s n n' k k' : ℕ) → s ≡ lowest n (λ u. eqb (get_or row u 0) (x / k)) → n ≡ n' → k ≡ k'
-    → s ≡ lowest n' (λ u. eqb (get_or row u 0) (x / k'))
-found_as row x s n n' k k' e p q =
-    e ∙ ap (λ (z : ℕ). lowest z (λ u. eqb (get_or row u 0) (x / k))) p ∙ ap (λ (z : ℕ). lowest n' (λ u. eqb (get_or row u 0) (x / z))) q
+pub found_as : (row : List ℕ) (x : ℕ) (found : Option ℕ) (n n' k k' : ℕ)
+    → found ≡ some_below n (lowest n (λ u. eqb (get_or row u 0) (x / k))) → n ≡ n' → k ≡ k'
+    → found ≡ some_below n' (lowest n' (λ u. eqb (get_or row u 0) (x / k')))
+found_as row x found n n' k k' e p q =
+    e ∙ ap (λ (z : ℕ). some_below z (lowest z (λ u. eqb (get_or row u 0) (x / k)))) p
+    ∙ ap (λ (z : ℕ). some_below n' (lowest n' (λ u. eqb (get_or row u 0) (x / z)))) q

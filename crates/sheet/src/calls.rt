@@ -11,7 +11,7 @@ ghost use Rattle.sheet.specs.Means.{RoundMeans, SettleMeans, PairMeans, MapMeans
 use crate::steps::{blank, copy_front, fill, first_apart, spell};
 use crate::{Pair, Refusal, Round, Settling, Sheet, Table, TableBuffer};
 use machine::{Machine, Output, check};
-use rounds::refine;
+use rounds::Numbering;
 
 impl<M: Machine> Sheet<M> {
     /// A sheet of one block, whatever the machine.
@@ -74,7 +74,11 @@ impl<M: Machine> Sheet<M> {
     {
         // stays: a copy, since an element of an array in a struct with a ghost field is not lent from behind a `&mut`
         let last = self.rows[self.rounds];
-        let refined = refine(&self.machine, &last);
+        let before = Numbering {
+            machine: &self.machine,
+            row: &last,
+        };
+        let refined = before.refine();
         if refined.parts <= self.parts {
             self.settled = true;
             return Round::Settled {

@@ -1,10 +1,11 @@
 //! The loops behind the calls, over rows of block numbers.
 ghost use Rattle.std.specs.Prelude.{◌≡◌, ℕ, ◌+◌, ◌*◌, ◌<◌, ◌≤◌, not, List, [], ◌++◌, length, take, drop, replicate, ◌==◌, nat_eq, slice_index, position};
 ghost use Rattle.mealy.specs.Below.{lowest};
+ghost use Rattle.rounds.specs.Joining.{some_below};
 ghost use Rattle.sheet.specs.Steps.{Spelt, Tabled};
 
 use machine::{Machine, Output};
-use rounds::first_input;
+use rounds::Numbering;
 
 /// The rows of a fresh sheet.
 pub(crate) fn blank() -> [[u8; 128]; 128]
@@ -18,8 +19,8 @@ pub(crate) fn copy_front(row: &[u8; 128], n: usize, out: &mut [u16])
     requires { (n ≤ 128) × (n ≤ length out.old) }
     ensures { out.new ≡ take n row.now ++ drop n out.old }
 {
-    for s in 0..n {
-        out[s] = row[s] as u16;
+    for (s, place) in out[..n].iter_mut().enumerate() {
+        *place = u16::from(row[s]);
     }
 }
 
@@ -31,17 +32,12 @@ pub(crate) fn first_apart(rows: &[[u8; 128]], s: usize, t: usize) -> Option<usiz
     rows.iter().position(|row| row[s] != row[t])
 }
 
-/// The lowest state below n with the number c, or n.
-fn first_with(row: &[u8; 128], n: u16, c: u8) -> u16
+/// The lowest state below n with the number c.
+fn first_with(row: &[u8; 128], n: usize, c: u8) -> Option<usize>
     requires { n ≤ 128 }
-    ensures { result ≡ lowest n (λ s. nat_eq (slice_index row.now s) c) }
+    ensures { result ≡ some_below n (lowest n (λ s. nat_eq (slice_index row.now s) c)) }
 {
-    for s in 0..n {
-        if row[s as usize] == c {
-            return s;
-        }
-    }
-    n
+    row[..n].iter().position(|block| *block == c)
 }
 
 /// Writes the word of two states that P j sets apart: at each place the first input that does, by the partition before.
@@ -59,11 +55,14 @@ pub(crate) fn spell<M: Machine>(
     let mut a = s;
     let mut b = t;
     for place in 0..j {
-        let i = first_input(machine, &rows[j - 1 - place], a, b);
-        let Ok(x) = machine.entry(a, i) else {
+        let before = Numbering {
+            machine,
+            row: &rows[j - 1 - place],
+        };
+        let Some(i) = before.first_input(a, b) else {
             return;
         };
-        let Ok(y) = machine.entry(b, i) else {
+        let (Ok(x), Ok(y)) = (machine.entry(a, i), machine.entry(b, i)) else {
             return;
         };
         out[place] = i;
@@ -87,14 +86,16 @@ pub(crate) fn fill<M: Machine>(
     requires room { (total ≤ length next.old) × (total ≤ length outputs.old) }
     ensures { Tabled M.Out.Output.key (M.Machine.means machine.now) row.now total next.old outputs.old next.new outputs.new }
 {
-    let n = machine.states();
+    let n = machine.states() as usize;
     let k = machine.inputs() as usize;
     for x in 0..total {
-        let s = first_with(row, n, (x / k) as u8);
-        let Ok(cell) = machine.entry(s, (x % k) as u16) else {
+        let Some(s) = first_with(row, n, (x / k) as u8) else {
             return;
         };
-        next[x] = row[cell.next as usize] as u16;
+        let Ok(cell) = machine.entry(s as u16, (x % k) as u16) else {
+            return;
+        };
+        next[x] = u16::from(row[cell.next as usize]);
         outputs[x] = cell.output;
     }
 }

@@ -1,11 +1,10 @@
-use Rattle.std.proofs.Common.{sym, arith}
-use Rattle.std.proofs.lemmas.Bool.{eq-eqb, ne_eqb}
-use Rattle.rounds.proofs.Passes.{lowest_found, lowest_none}
+use Rattle.std.proofs.Common.{◌≡◌, true, false, eqb, take, arith, rules, tests}
+use Rattle.std.proofs.lemmas.Iterator.{IsFirst-from_position, YieldsList-from_slice}
+use Rattle.sheet.proofs.Copying.{place_is_found}
 use Rattle.sheet.proofs.steps.first_with.Goals as goal
 
-pub returns-then-row-s : goal.returns-then-row-s
-returns-then-row-s c =
-    sym (lowest_found c.args.n _ c.loop-s.s c.loop-s-test.true (λ u h. ne_eqb _ _ (c.loop-s.invariant u h)) (eq-eqb _ _ c.if-row-s.true))
-
 pub returns : goal.returns
-returns c = sym (lowest_none c.args.n _ (λ u h. ne_eqb _ _ (c.loop-s.invariant u (omega arith))))
+returns c =
+    let front = take c.args.n c.args.row.now in
+    place_is_found c.args.row.now c.args.n c.args.c _ (omega arith)
+    (IsFirst-from_position _ _ _ (λ x. eqb x c.args.c ≡ true) (λ x. eqb x c.args.c ≡ false) c.position.ensures.ran (YieldsList-from_slice front cc) (λ x q k. search (rules, tests)) (λ x q k. search (rules, tests)))
