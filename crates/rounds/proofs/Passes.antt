@@ -1,10 +1,7 @@
 -- `every`, `lowest` and `count` of a number more, and of tests that agree.
-use Rattle.std.proofs.Common.{◌≡◌, ℕ, zero, suc, ◌+◌, ◌<◌, Bool, true, false, length, MatchBool, cond, ◌&&◌, ltb, sym, refl, ap, ◌∙◌, subst, ⊎_elim, add-one, zero-add, arith}
+use Rattle.std.proofs.Common.{◌≡◌, ℕ, zero, suc, ◌+◌, ◌<◌, Bool, true, false, cond, ◌&&◌, ltb, sym, refl, ap, ◌∙◌, subst, ⊎_elim, add-one, arith}
 use Rattle.std.proofs.lemmas.Bool.{and_from, and_left, and_right, lt-ltb, le-ltb, cond-true, cond-false, cases_eq}
-use Rattle.std.specs.List.{AllWithin, HoldsAt, range_with_len}
-use Rattle.std.proofs.lemmas.List.FromFn.{get_or-range_with_len, length-range_with_len}
 use Rattle.mealy.specs.Below.{every, lowest, count}
-use Rattle.mealy.proofs.Below.{every_from}
 
 -- One more that passes.
 pub every_more : (n : ℕ) (p : ℕ → Bool) → every n p ≡ true → p n ≡ true → every (n + 1) p ≡ true
@@ -16,18 +13,6 @@ every_not zero p i h e = absurd (omega arith)
 every_not (suc n) p i h e =
     ⊎_elim (λ (q : i ≡ n). and_right (every n p) (p n) (subst (λ (x : ℕ). p x ≡ false) q e))
     (λ (q : i ≡ n → ⊥). and_left (every n p) (p n) (every_not n p i (omega arith) e)) (cases_eq i n)
-
--- What a look at each number of a range has told of all of them.
-pub every_told : (n : ℕ) (p : ℕ → Bool) (told : Bool)
-    → MatchBool told (AllWithin (λ i. p i ≡ true) (range_with_len 0 n) 0 (length (range_with_len 0 n)))
-    ((k : ℕ) × (k < length (range_with_len 0 n)) × HoldsAt (λ i. p i ≡ false) (range_with_len 0 n) k)
-    → told ≡ every n p
-every_told n p true all =
-    sym (every_from n p (λ i l.
-    subst (λ (x : ℕ). p x ≡ true) (get_or-range_with_len 0 n i 0 l ∙ zero-add i) (all i 0 (omega arith) (omega (arith, length-range_with_len 0 n)))))
-every_told n p false (k, l, here) =
-    let low : k < n = omega (arith, length-range_with_len 0 n) in
-    sym (every_not n p k low (subst (λ (x : ℕ). p x ≡ false) (get_or-range_with_len 0 n k 0 low ∙ zero-add k) (here 0)))
 
 -- Tests that agree below n have one answer.
 pub every_same : (n : ℕ) (p q : ℕ → Bool) → ((i : ℕ) → i < n → p i ≡ q i) → every n p ≡ every n q

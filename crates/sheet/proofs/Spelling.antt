@@ -1,5 +1,5 @@
 -- The first word that tells two states apart, an input at a time.
-use Rattle.std.proofs.Common.{◌≡◌, ℕ, suc, ◌+◌, ◌-◌, ◌<◌, ◌≤◌, Bool, true, false, List, [], ◌∷◌, ◌++◌, length, get_or, take, drop, set, ℤ, Option, Some, None, is_ok, Ok, Err, Decides, sym, refl, ap, ◌∙◌, subst, arith}
+use Rattle.std.proofs.Common.{◌≡◌, ℕ, suc, ◌+◌, ◌-◌, ◌<◌, ◌≤◌, Bool, true, false, List, [], ◌∷◌, ◌++◌, length, get_or, take, drop, set, ℤ, Option, Some, None, is_ok, Ok, Err, Decides, sym, ap, ◌∙◌, subst, arith}
 use Rattle.std.proofs.lemmas.Bool.{cond-true, cond-false, true≢false}
 use Rattle.std.proofs.lemmas.List.{take_more_set, length_push, length-take-le, take-append-drop, append_assoc}
 use Rattle.machine.specs.Meaning as meaning
@@ -41,19 +41,6 @@ module _ {O F : Type 0} (key : O → List ℤ) (m : Meaning O F) (j s t : ℕ) (
     pub apart : share (mealy_of key m) (j - place) a b ≡ false
     pub word : first_word (mealy_of key m) j s t ≡ take place out ++ first_word (mealy_of key m) (j - place) a b
     pub rest : drop place out ≡ drop place before
-
--- Before the first place.
-pub spelling_none : {O F : Type 0} (key : O → List ℤ) (m : Meaning O F) (rows : List (List ℕ)) (j s t : ℕ) (before : List ℕ)
-    → Apart key m rows j s t → Spelling key m j s t before 0 s t before
-spelling_none key m rows j s t before pre =
-    let z : j ≡ j - 0 = omega arith in
-    record {
-      left = pre.left;
-      right = pre.right;
-      apart = subst (λ (x : ℕ). share (mealy_of key m) x s t ≡ false) z pre.apart;
-      word = ap (λ (x : ℕ). first_word (mealy_of key m) x s t) z;
-      rest = refl;
-    }
 
 -- One more place.
 module _ {O F : Type 0} (key : O → List ℤ) (m : Meaning O F) (closed : meaning.Closed m) (rows : List (List ℕ)) (j s t : ℕ)

@@ -54,11 +54,13 @@ pub(crate) fn spell<M: Machine>(
 {
     let mut a = s;
     let mut b = t;
+    // stays: tried in copy_front, the proof knows nothing of what a zip over iter_mut() writes, as zip(rows[..j].iter().rev()) here
     for place in 0..j {
         let before = Numbering {
             machine,
             row: &rows[j - 1 - place],
         };
+        // stays: nothing asked of callers says that the machine is sound, so unreachable!() can't be proved here and below
         let Some(i) = before.first_input(a, b) else {
             return;
         };
@@ -88,6 +90,7 @@ pub(crate) fn fill<M: Machine>(
 {
     let n = machine.states() as usize;
     let k = machine.inputs() as usize;
+    // stays: as in spell, the proof knows nothing of what a zip of the buffers' iter_mut() or chunks_mut() writes
     for x in 0..total {
         let Some(s) = first_with(row, n, (x / k) as u8) else {
             return;

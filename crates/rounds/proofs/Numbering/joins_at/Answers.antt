@@ -8,19 +8,19 @@ pub in_one_block-requires : goal.in_one_block-requires
 in_one_block-requires g c =
     let m = c.args.self.now.machine.now in
     let fits = few_states (g.M.Machine.means m) (g.met.M.Machine.sizes m) in
-    let one = g.met.M.Machine.closed m c.args.s c.args.i c.in-Ok-Ok.a (sym c.entry.ensures ∙ c.in-Ok-Ok.is-0) in
-    let other = g.met.M.Machine.closed m c.args.t c.args.i c.in-Ok-Ok.b (sym c.entry-2.ensures ∙ c.in-Ok-Ok.is-1) in
+    let one = g.met.M.Machine.closed m c.args.s c.args.i c.in-Ok.a (sym c.in-Ok.ensures) in
+    let other = g.met.M.Machine.closed m c.args.t c.args.i c.in-Ok-entry.b (sym c.in-Ok-entry.ensures) in
     (omega arith, omega arith)
 
 -- Both are cells: the answer is the test of their keys and numbers.
 pub returns-then-alike : goal.returns-then-alike
 returns-then-alike g c =
     let row = c.args.self.now.row.now in
-    let e = join_alike g.M.Out.Output.key row _ _ c.in-Ok-Ok.a c.in-Ok-Ok.b (sym c.in-Ok-Ok.is-0 ∙ c.entry.ensures) (sym c.in-Ok-Ok.is-1 ∙ c.entry-2.ensures) c.alike.result c.alike.ensures in
-    c.in_one_block.ensures ∙ sym (e ∙ ap (λ (b : Bool). b && eqb (get_or row c.in-Ok-Ok.a.next 0) (get_or row c.in-Ok-Ok.b.next 0)) c.if-alike.true)
+    let e = join_alike g.M.Out.Output.key row _ _ c.in-Ok.a c.in-Ok-entry.b c.in-Ok.ensures c.in-Ok-entry.ensures c.alike.result c.alike.ensures in
+    c.in_one_block.ensures ∙ sym (e ∙ ap (λ (b : Bool). b && eqb (get_or row c.in-Ok.a.next 0) (get_or row c.in-Ok-entry.b.next 0)) c.if-alike.true)
 
 pub returns-else-alike : goal.returns-else-alike
 returns-else-alike g c =
     let row = c.args.self.now.row.now in
-    let e = join_alike g.M.Out.Output.key row _ _ c.in-Ok-Ok.a c.in-Ok-Ok.b (sym c.in-Ok-Ok.is-0 ∙ c.entry.ensures) (sym c.in-Ok-Ok.is-1 ∙ c.entry-2.ensures) c.alike.result c.alike.ensures in
-    c.if-alike.false ∙ sym (e ∙ ap (λ (b : Bool). b && eqb (get_or row c.in-Ok-Ok.a.next 0) (get_or row c.in-Ok-Ok.b.next 0)) c.if-alike.false)
+    let e = join_alike g.M.Out.Output.key row _ _ c.in-Ok.a c.in-Ok-entry.b c.in-Ok.ensures c.in-Ok-entry.ensures c.alike.result c.alike.ensures in
+    c.if-alike.false ∙ sym (e ∙ ap (λ (b : Bool). b && eqb (get_or row c.in-Ok.a.next 0) (get_or row c.in-Ok-entry.b.next 0)) c.if-alike.false)

@@ -1,14 +1,10 @@
-use Rattle.std.proofs.Common.{◌≡◌, ℕ, Bool, true, false, refl, ap, ◌∙◌, arith, rules, tests}
-use Rattle.std.proofs.lemmas.Iterator.{cases_from_all, YieldsList-from_range}
-use Rattle.mealy.specs.Below.{every}
-use Rattle.rounds.specs.Joining.{joins_at}
-use Rattle.rounds.proofs.Passes.{every_told}
+use Rattle.std.proofs.Common.{sym, arith}
+use Rattle.rounds.proofs.Passes.{every_not, every_more}
 use Rattle.rounds.proofs.Numbering.joins_everywhere.Goals as goal
 
-pub returns : goal.returns
-returns g c =
-    let p : ℕ → Bool = joins_at g.M.Out.Output.key (g.M.Machine.means c.args.self.now.machine.now) c.args.self.now.row.now c.args.s c.args.t in
-    every_told c.inputs.result p _
-    (cases_from_all _ _ _ (λ i. p i ≡ true) (λ i. p i ≡ false) c.all.ensures.ran (YieldsList-from_range 0 c.inputs.result c.inputs.result refl (omega arith))
-    (λ i q k. search (rules, tests)) (λ i q k. search (rules, tests)))
-    ∙ ap (λ (n : ℕ). every n p) c.inputs.ensures
+pub returns-then-not-joins_at : goal.returns-then-not-joins_at
+returns-then-not-joins_at g c =
+    sym (every_not (g.M.Machine.means c.args.self.now.machine.now).inputs _ c.loop-i.i (omega (arith, c.inputs-i-end.ensures)) (sym c.if-not-joins_at.ensures))
+
+pub loop-i-preserved : goal.loop-i-preserved
+loop-i-preserved g c = every_more c.loop-i.i _ c.loop-i.invariant (sym c.if-not-joins_at.ensures)
