@@ -1,11 +1,11 @@
 //! A machine reduced: everything that its settled sheet hands out, in lists.
 #![tactic(auto)]
 
-ghost use Rattle.std.specs.Prelude.{◌≡◌, true, IfOk};
-ghost use Rattle.machine.specs.Theory.{sound_by};
-ghost use Rattle.reductions.specs.Reductions.{IsReduction, Reduced};
+ghost use Rattle.std.specs.Prelude.{◌≡◌};
+ghost use Rattle.reductions.specs.Reductions.{Reduced};
+ghost use Rattle.reductions.specs.declared.Unreduced.TheVariants.{Unsound, NoMemory};
 
-use crate::handing::{all_aparts, first_output, leaders_of, map_of, settled, table_of};
+use crate::handing::Done;
 use machine::{CheckRefusal, Machine, Output, check};
 use sheet::{Settling, Table};
 use std::alloc::{AllocError, Global};
@@ -40,6 +40,22 @@ pub enum Unreduced<F> {
     NoMemory,
 }
 
+impl<F> From<CheckRefusal<F>> for Unreduced<F> {
+    ghost from_gives = { λ x y. y ≡ Unsound x };
+
+    fn from(refusal: CheckRefusal<F>) -> Unreduced<F> {
+        Unreduced::Unsound(refusal)
+    }
+}
+
+impl<F> From<AllocError> for Unreduced<F> {
+    ghost from_gives = { λ x y. y ≡ NoMemory };
+
+    fn from(_: AllocError) -> Unreduced<F> {
+        Unreduced::NoMemory
+    }
+}
+
 /// Reduces a sound machine; any other is refused as the check refuses it.
 pub fn reduce<M: Machine + Drop>(
     heap: Global,
@@ -47,41 +63,8 @@ pub fn reduce<M: Machine + Drop>(
 ) -> Result<Reduction<M::Out>, Unreduced<M::Fault>>
     ensures { Reduced M.Out.Output.key (M.Machine.means machine) result }
 {
-    if let Err(refusal) = check(&machine) {
-        return Err(Unreduced::Unsound(refusal));
-    }
-    match hand_out(heap, machine) {
-        Ok(reduction) => Ok(reduction),
-        Err(_) => Err(Unreduced::NoMemory),
-    }
-}
-
-/// Settles a sound machine's sheet, and asks it for everything.
-fn hand_out<M: Machine + Drop>(heap: Global, machine: M) -> Result<Reduction<M::Out>, AllocError>
-    requires sound { sound_by (M.Machine.means machine) ≡ true }
-    ensures { IfOk result (IsReduction M.Out.Output.key (M.Machine.means machine)) }
-{
-    let states = machine.states();
-    let inputs = machine.inputs();
-    let start = machine.start();
-    let filler = first_output(&machine);
-    let done = settled(machine);
-    let map = map_of(heap, &done.sheet, states)?;
-    let cells = done.settling.count as usize * inputs as usize;
-    let handed = table_of(heap, &done.sheet, cells, filler)?;
-    let leaders = leaders_of(heap, &map, done.settling.count)?;
-    let aparts = all_aparts(heap, &done.sheet, &leaders)?;
-    Ok(Reduction {
-        states,
-        inputs,
-        start,
-        settling: done.settling,
-        table: handed.table,
-        map,
-        next: handed.next,
-        outputs: handed.outputs,
-        aparts,
-    })
+    check(&machine)?;
+    Ok(Done::of(machine).hand_out(heap)?)
 }
 
 mod handing;

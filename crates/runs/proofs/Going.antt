@@ -1,5 +1,9 @@
 -- A run with one entry more.
-use Rattle.std.proofs.Common.{◌≡◌, ℕ, ◌+◌, ◌<◌, Bool, true, false, ◌||◌, List, [], ◌∷◌, ◌++◌, length, get_or, take, ℤ, Ok, Err, Result, sym, refl, ap, ◌∙◌, subst, arith}
+use Rattle.std.proofs.Common.{◌≡◌, ℕ, ◌+◌, ◌<◌, Bool, true, false, ◌||◌, List, [], ◌∷◌, ◌++◌, length, get_or, take, ℤ, Ok, Err, Result, IsErr, sym, refl, ap, ◌∙◌, subst, add-zero, arith}
+use Rattle.std.proofs.Math.Bool.{or-false, or-true}
+use Rattle.std.proofs.lemmas.Bool.{false≢true}
+use Rattle.std.proofs.lemmas.List.Folds.{list_any-append}
+use Rattle.std.proofs.lemmas.List.Sums.{sum_by-append}
 use Rattle.machine.specs.declared.Cell.{Cell}
 use Rattle.std.proofs.lemmas.List.{append-nil, append_assoc, length_push, take_more}
 use Rattle.sheet.specs.Stage.{Stage}
@@ -13,22 +17,11 @@ use Rattle.runs.specs.declared.Call.{Call}
 
 -- What one more entry adds to the counts,
 splits_push : {O : Type 0} (es : List (Entry O)) (e : Entry O) → splits_in (es ++ e ∷ []) ≡ splits_in es + says_split e.answer
-splits_push [] e = omega arith
-splits_push (x ∷ es) e = omega (arith, splits_push es e)
-
-or_push : (a b c : Bool) → (a || (b || c)) ≡ ((a || b) || c)
-or_push true b c = refl
-or_push false b c = refl
-
-or_end : (a : Bool) → (a || false) ≡ a
-or_end true = refl
-or_end false = refl
+splits_push es e = omega (arith, sum_by-append (λ (x : Entry _). says_split x.answer) es (e ∷ []))
 
 settled_push : {O : Type 0} (es : List (Entry O)) (e : Entry O) → settled_in (es ++ e ∷ []) ≡ (settled_in es || says_settled e.answer)
-settled_push [] e = or_end (says_settled e.answer)
-settled_push (x ∷ es) e =
-    ap (λ (b : Bool). says_settled x.answer || b) (settled_push es e)
-    ∙ or_push (says_settled x.answer) (settled_in es) (says_settled e.answer)
+settled_push es e =
+    list_any-append (λ x. says_settled x.answer) es (e ∷ []) ∙ ap (λ (b : Bool). settled_in es || b) (or-false (says_settled e.answer))
 
 left_push : {O : Type 0} (b : Buffers O) (es : List (Entry O)) (e : Entry O) → last_left b (es ++ e ∷ []) ≡ e.left
 left_push b [] e = refl
@@ -38,22 +31,17 @@ left_push b (x ∷ es) e = left_push x.left es e
 abbrev at : Stage → ℕ → Bool → Stage
 at t r b = record { machine = t.machine; start = t.start; sound = t.sound; rounds = r; settled = b }
 
-or_true : (a : Bool) → (a || true) ≡ true
-or_true true = refl
-or_true false = refl
-
-none : (r : ℕ) → r + 0 ≡ r
-none r = omega arith
+still : (t : Stage) (r : ℕ) (b : Bool) → at t (r + 0) (b || false) ≡ at t r b
+still t r b = ap (λ (x : ℕ). at t x (b || false)) (add-zero r) ∙ ap (at t r) (or-false b)
 
 stage_by_lem : (t : Stage) (r : ℕ) (b : Bool) (a : Answer) → at t (r + says_split a) (b || says_settled a) ≡ stage_by a (at t r b)
-stage_by_lem t r b (answer.Round (Ok (round.Split c))) = ap (λ (x : Bool). at t (r + 1) x) (or_end b)
-stage_by_lem t r b (answer.Round (Ok (round.Settled c))) =
-    ap (λ (x : ℕ). at t x (b || true)) (none r) ∙ ap (λ (x : Bool). at t r x) (or_true b)
-stage_by_lem t r b (answer.Round (Err e)) = ap (λ (x : ℕ). at t x (b || false)) (none r) ∙ ap (λ (x : Bool). at t r x) (or_end b)
-stage_by_lem t r b (answer.Pair a) = ap (λ (x : ℕ). at t x (b || false)) (none r) ∙ ap (λ (x : Bool). at t r x) (or_end b)
-stage_by_lem t r b (answer.Map a) = ap (λ (x : ℕ). at t x (b || false)) (none r) ∙ ap (λ (x : Bool). at t r x) (or_end b)
-stage_by_lem t r b (answer.Word a) = ap (λ (x : ℕ). at t x (b || false)) (none r) ∙ ap (λ (x : Bool). at t r x) (or_end b)
-stage_by_lem t r b (answer.Table a) = ap (λ (x : ℕ). at t x (b || false)) (none r) ∙ ap (λ (x : Bool). at t r x) (or_end b)
+stage_by_lem t r b (answer.Round (Ok (round.Split c))) = ap (at t (r + 1)) (or-false b)
+stage_by_lem t r b (answer.Round (Ok (round.Settled c))) = ap (λ (x : ℕ). at t x (b || true)) (add-zero r) ∙ ap (at t r) (or-true b)
+stage_by_lem t r b (answer.Round (Err e)) = still t r b
+stage_by_lem t r b (answer.Pair a) = still t r b
+stage_by_lem t r b (answer.Map a) = still t r b
+stage_by_lem t r b (answer.Word a) = still t r b
+stage_by_lem t r b (answer.Table a) = still t r b
 
 stage_push : {O : Type 0} (t : Stage) (es : List (Entry O)) (e : Entry O)
     → stage_after_log t (es ++ e ∷ []) ≡ stage_by e.answer (stage_after_log t es)
@@ -125,9 +113,10 @@ module _ {O F : Type 0} (key : O → List ℤ) (entry : ℕ → ℕ → Result (
   }
 
   pub played_some : {U S : Type 0} (calls : List Call) (i : ℕ) (before after after' : List (Entry O)) (stage : Stage) (end end' : Buffers O)
-      → Going calls i before after stage end → after' ≡ after → i < length calls → (s : S)
-      → Played {U = U} {S = S} key entry opened start calls before after' (Err s) end'
-  played_some calls i before after after' stage end end' go same l s = record {
+      → Going calls i before after stage end → after' ≡ after → i < length calls → (r : Result U S) → IsErr r
+      → Played key entry opened start calls before after' r end'
+  played_some calls i before after after' stage end end' go same l (Ok u) e = absurd (false≢true e)
+  played_some calls i before after after' stage end end' go same l (Err s) e = record {
     entries = go.entries;
     grew = same ∙ go.grew;
     law = subst (λ (x : ℕ). Run key entry opened start [] (take x calls) go.entries) (sym go.size) go.law;

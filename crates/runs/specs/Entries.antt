@@ -5,7 +5,8 @@
 --   splits_in, settled_in       how many answers of a log said split, and whether one said settled
 --   stage_by, stage_after_log   where a sheet stands after one answer, or after all of a log
 --   last_left                   the buffers as the last entry left them
-use Rattle.std.specs.Prelude.{◌≡◌, ℕ, ◌+◌, Bool, true, false, ◌||◌, List, [], ◌∷◌, ◌++◌, Ok, Err, Result}
+use Rattle.std.specs.Prelude.{◌≡◌, ℕ, Bool, true, false, List, [], ◌∷◌, ◌++◌, Ok, Err, Result, sum_by}
+use Rattle.std.specs.List.{list_any}
 use Rattle.sheet.specs.Stage.{Stage, stage_after}
 use Rattle.sheet.specs.declared.answers.Refusal.{Refusal}
 use Rattle.sheet.specs.declared.answers.Round.{Round}
@@ -65,13 +66,11 @@ says_settled (answer.Table a) = false
 module _ {O : Type 0} where
   -- how many answers said split
   abbrev pub splits_in : List (Entry O) → ℕ
-  splits_in [] = 0
-  splits_in (e ∷ es) = says_split e.answer + splits_in es
+  splits_in es = sum_by (λ e. says_split e.answer) es
 
   -- whether an answer said settled
   abbrev pub settled_in : List (Entry O) → Bool
-  settled_in [] = false
-  settled_in (e ∷ es) = says_settled e.answer || settled_in es
+  settled_in es = list_any (λ e. says_settled e.answer) es
 
   -- the opened machine after the rounds of a log, counted in the log itself
   abbrev pub stage_after_log : Stage → List (Entry O) → Stage

@@ -82,12 +82,9 @@ pub fn play<M: Machine + Drop, R: Recorder<M::Out>>(
     ensures { Played M.Out.Output.key (M.Machine.means machine).entry (stage_at M.Out.Output.key (M.Machine.means machine) 0 false) (buffers numbers.old next.old outputs.old) calls.now (R.Recorder.log recorder.old) (R.Recorder.log recorder.new) result (buffers numbers.new next.new outputs.new) }
 {
     let mut sheet = Sheet::open(machine);
-    for i in 0..calls.len() {
-        let call = calls[i];
-        let answer = ask(&mut sheet, call, numbers, next, outputs);
-        if let Err(stop) = recorder.note(call, answer, numbers, next, outputs) {
-            return Err(stop);
-        }
+    for call in calls {
+        let answer = ask(&mut sheet, *call, numbers, next, outputs);
+        recorder.note(*call, answer, numbers, next, outputs)?;
     }
     Ok(())
 }

@@ -35,19 +35,15 @@ impl<O: Copy> Recorder<O> for Log<O> {
         next: &[u16],
         outputs: &[O],
     ) -> Result<(), AllocError> {
-        let a = Vec::from_slice(self.heap, numbers)?;
-        let b = Vec::from_slice(self.heap, next)?;
-        let c = Vec::from_slice(self.heap, outputs)?;
-        match self.lines.push(Line {
+        let line = Line {
             call,
             answer,
-            numbers: a,
-            next: b,
-            outputs: c,
-        }) {
-            Ok(()) => Ok(()),
-            Err(_) => Err(AllocError),
-        }
+            numbers: Vec::from_slice(self.heap, numbers)?,
+            next: Vec::from_slice(self.heap, next)?,
+            outputs: Vec::from_slice(self.heap, outputs)?,
+        };
+        self.lines.push(line)?;
+        Ok(())
     }
 }
 

@@ -1,14 +1,14 @@
 use Rattle.std.proofs.Common.{◌≡◌, ◌+◌, ◌-◌, ◌++◌, map, length, vec_items}
 use Rattle.std.specs.List.{range_with_len}
-use Rattle.sheet.specs.Stage.{stage_of}
+use Rattle.sheet.specs.Standing.{stage_of}
 use Rattle.texts.specs.Each.{each}
 use Rattle.reductions.specs.Aparts.{apart_of, aparts_above, aparts_of}
-use Rattle.reductions.proofs.handing.all_aparts.Given as goal
+use Rattle.reductions.proofs.handing.Done.aparts.Given as goal
 
 -- what is left to add makes the whole
 abbrev pub invariant-loop-class : goal.invariant-loop-class
 invariant-loop-class g l =
-    let m = (stage_of g.M.Machine g.M.Out.Output l.sheet).machine in
-    let r = l.sheet.rounds in
+    let m = (stage_of l.self.sheet).machine in
+    let r = l.self.sheet.rounds in
     map apart_of (vec_items l.aparts) ++ each (aparts_above m r l.leaders) (range_with_len (0 + l.class) (length l.leaders - l.class))
     ≡ aparts_of m r l.leaders
