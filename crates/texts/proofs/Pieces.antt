@@ -1,6 +1,5 @@
 -- A text, or any list, made piece by piece.
-use Rattle.std.proofs.Common.{◌≡◌, ℕ, suc, ◌+◌, ◌-◌, ◌<◌, ◌≤◌, List, [], ◌∷◌, ◌++◌, length, get_or, take, drop, codes, decimal, map, Some, sym, refl, ap, ◌∙◌, append_assoc, append-nil, add-one, arith, drop-cons}
-use lib.Seq.{drop-length}
+use Rattle.std.proofs.Common.{◌≡◌, ℕ, suc, ◌+◌, ◌-◌, ◌<◌, ◌≤◌, List, [], ◌∷◌, ◌++◌, length, get_or, take, decimal, map, Some, sym, refl, ap, ◌∙◌, append_assoc, append-nil, arith}
 use Rattle.std.proofs.lemmas.List.{map_more}
 use Rattle.std.proofs.lemmas.List.Folds.{flat_map-map}
 use Rattle.std.proofs.lemmas.List.FromFn.{map-range_with_len_more}
@@ -44,21 +43,6 @@ module _ {B : Type 0} (f : ℕ → List B) where
   each_more old mid new a n x so more e =
       more ∙ ap (λ (t : List B). t ++ f x) so ∙ append_assoc old (each f (range_with_len a n)) (f x)
       ∙ ap (λ (t : List B). old ++ t) (sym (longer a n x e))
-
-  pub each_up_to : (old mid new : List B) (a x : ℕ) → a ≤ x → mid ≡ old ++ each f (range_with_len a (x - a)) → new ≡ mid ++ f x
-      → new ≡ old ++ each f (range_with_len a (x + 1 - a))
-  each_up_to old mid new a x h so more =
-      let next : x + 1 - a ≡ x - a + 1 = omega arith in
-      rw next (each_more old mid new a (x - a) x so more (omega arith))
-
--- one number more
-pub numbers_step : (old ns : List ℕ) (i n : ℕ) → i < length ns → n ≡ get_or ns i 0
-    → (old ++ (codes " " ++ decimal n)) ++ numbers_text (drop (i + 1) ns) ≡ old ++ numbers_text (drop i ns)
-numbers_step old ns i n h e = rw (add-one, drop-cons ns i 0, ← e) (simp append_assoc)
-
--- no number left
-pub numbers_done : (old ns : List ℕ) (i : ℕ) → i ≡ length ns → old ++ numbers_text (drop i ns) ≡ old
-numbers_done old ns i h = rw (h, drop-length, append-nil)
 
 -- numbers in a line are what each adds
 pub numbers_each : (ns : List ℕ) → numbers_text ns ≡ each spaced ns
