@@ -36,8 +36,8 @@ impl<'a, M: Machine> Numbering<'a, M> {
     fn joins_at(&self, s: u16, t: u16, i: u16) -> bool
         ensures { result ≡ joins_at M.Out.key (M.Machine.means self.now.machine.now) self.now.row.now s t i }
     {
-        // stays: `let (Ok(a), Ok(b)) = (.., ..) else` takes 1.5 times as long on a grid of 128 states and 32 inputs, and a match on
-        // the pair isn't covered: two branches join that hold different things
+        // stays: a match on the pair isn't covered (two branches join that hold different things), and a let of the pair always asks for
+        // both entries
         let Ok(a) = self.machine.entry(s, i) else {
             return false;
         };
