@@ -9,15 +9,9 @@ mod tests {
     use forms::Ring;
     use layers::{Beside, Keymap, KeymapFault, LayerFault, PairFault, Train};
     use machine::faults::Fault as _;
-    use machine::{Cause, Cell, CheckRefusal, Command, Fault, Machine, StoredFault};
+    use machine::{Cause, CheckRefusal, Fault, Machine, StoredFault};
+    use samples::{cell, fault};
     use std::test::Fail;
-
-    fn cell(next: u16, number: u16) -> Cell<Command> {
-        Cell {
-            next,
-            output: Command { number },
-        }
-    }
 
     #[test]
     fn rings_fill_the_panel(rt: HostRuntime) -> Result<(), Fail> {
@@ -43,12 +37,7 @@ mod tests {
 
     // key 2 asks for input 3 of a ring, which has three
     fn past() -> StoredFault {
-        StoredFault {
-            cause: Cause::Input,
-            state: 0,
-            input: 3,
-            place: 0,
-        }
+        fault(Cause::Input, 0, 3, 0)
     }
 
     #[test]

@@ -1,17 +1,10 @@
 //! In which order piles find causes, whose fault they answer with, and what they make of starts, commands and keys.
+use forms::Ring;
 use forms::grids::BLANK;
-use forms::{Grid, Ring};
 use layers::{Beside, Keymap, KeymapFault, LayerFault, PairFault, Train};
-use machine::{Cause, Cell, Command, Fault, Machine, StoredFault};
-use std::alloc::Global;
+use machine::{Cause, Machine};
+use samples::{cell, fault, grid};
 use std::test::Fail;
-
-fn cell(next: u16, number: u16) -> Cell<Command> {
-    Cell {
-        next,
-        output: Command { number },
-    }
-}
 
 fn own(cause: Cause, state: u16, input: u16) -> LayerFault {
     LayerFault {
@@ -19,32 +12,6 @@ fn own(cause: Cause, state: u16, input: u16) -> LayerFault {
         state,
         input,
     }
-}
-
-fn blank(state: u16, input: u16, place: usize) -> StoredFault {
-    StoredFault {
-        cause: Cause::Blank,
-        state,
-        input,
-        place,
-    }
-}
-
-/// A grid of so many states and inputs, by its next states and commands.
-fn grid(
-    heap: Global,
-    states: u16,
-    inputs: u16,
-    start: u16,
-    cells: &[(u16, u16)],
-) -> Result<Grid<Command>, Fail> {
-    let mut next = Vec::new(heap);
-    let mut outputs = Vec::new(heap);
-    for (to, number) in cells {
-        next.push(*to)?;
-        outputs.push(Command { number: *number })?;
-    }
-    Ok(Grid::open(states, inputs, start, next, outputs)?)
 }
 
 #[test]
@@ -122,12 +89,12 @@ fn a_start_is_made_of_the_starts_of_the_parts(rt: HostRuntime) -> Result<(), Fai
     let heap = rt.alloc();
     let three = [(0, 0), (0, 0), (0, 0)];
     let two = [(0, 0), (0, 0)];
-    let beside = Beside::new(grid(heap, 3, 1, 2, &three)?, grid(heap, 2, 1, 1, &two)?);
+    let beside = Beside::new(grid(heap, 3, 1, 2, &three)??, grid(heap, 2, 1, 1, &two)??);
     assert_eq!(rt; beside.start(), 2);
-    let train = Train::new(grid(heap, 3, 1, 2, &three)?, grid(heap, 2, 1, 1, &two)?);
+    let train = Train::new(grid(heap, 3, 1, 2, &three)??, grid(heap, 2, 1, 1, &two)??);
     assert_eq!(rt; train.start(), 5);
     assert_eq!(rt;
-        Keymap::new(grid(heap, 3, 1, 2, &three)?, &[0, 0]).start(),
+        Keymap::new(grid(heap, 3, 1, 2, &three)??, &[0, 0]).start(),
         2
     );
     Ok(())
@@ -138,7 +105,7 @@ fn a_command_too_large_is_the_highest_input(rt: HostRuntime) -> Result<(), Fail>
     let commands = [(0, 0), (0, 1), (0, 2), (0, 65535)];
     // two inputs: 0 stays and 1 goes forward
     let upper = Keymap::new(Ring::open(4)?, &[2, 0]);
-    let train = Train::new(grid(rt.alloc(), 1, 4, 0, &commands)?, upper);
+    let train = Train::new(grid(rt.alloc(), 1, 4, 0, &commands)??, upper);
     assert_eq!(rt; train.entry(0, 0), Ok(cell(0, 0)));
     assert_eq!(rt; train.entry(0, 1), Ok(cell(1, 0)));
     assert_eq!(rt; train.entry(0, 2), Ok(cell(1, 0)));
@@ -149,11 +116,17 @@ fn a_command_too_large_is_the_highest_input(rt: HostRuntime) -> Result<(), Fail>
 #[test]
 fn the_lower_part_is_asked_first(rt: HostRuntime) -> Result<(), Fail> {
     let heap = rt.alloc();
-    let lower = grid(heap, 1, 2, 0, &[(BLANK, 0), (0, 0)])?;
-    let upper = grid(heap, 2, 1, 0, &[(0, 0), (BLANK, 0)])?;
+    let lower = grid(heap, 1, 2, 0, &[(BLANK, 0), (0, 0)])??;
+    let upper = grid(heap, 2, 1, 0, &[(0, 0), (BLANK, 0)])??;
     let train = Train::new(lower, upper);
-    assert_eq!(rt; train.entry(1, 0), Err(PairFault::First(blank(0, 0, 0))));
-    assert_eq!(rt; train.entry(1, 1), Err(PairFault::Second(blank(1, 0, 1))));
+    assert_eq!(rt;
+        train.entry(1, 0),
+        Err(PairFault::First(fault(Cause::Blank, 0, 0, 0)))
+    );
+    assert_eq!(rt;
+        train.entry(1, 1),
+        Err(PairFault::Second(fault(Cause::Blank, 1, 0, 1)))
+    );
     Ok(())
 }
 

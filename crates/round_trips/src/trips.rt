@@ -5,39 +5,11 @@ use forms::grids::BLANK;
 use forms::{Chain, Grid, OpenRefusal, Ring};
 use layers::{Beside, Keymap, LayerFault, PairFault, Train};
 use machine::{Cause, CheckRefusal, Command, Fault, Machine, StoredFault};
+use samples::{bytes_of, fault, grid};
 use six_states::{CELLS, FRONT, RECORDS};
 use std::alloc::Global;
 use std::test::Fail;
 use writing::{NormalRefusal, WriteRefusal, normalised, write_chain};
-
-fn grid(
-    heap: Global,
-    states: u16,
-    inputs: u16,
-    cells: &[(u16, u16)],
-) -> Result<Grid<Command>, Fail> {
-    let mut next = Vec::new(heap);
-    let mut outputs = Vec::new(heap);
-    for (to, number) in cells {
-        next.push(*to)?;
-        outputs.push(Command { number: *number })?;
-    }
-    Ok(Grid::open(states, inputs, 0, next, outputs)?)
-}
-
-/// A chain's bytes: the numbers in front with the heads, and the records.
-fn bytes_of(heap: Global, front: &[u16], records: &[[u16; 5]]) -> Result<Vec<u8>, Fail> {
-    let mut bytes = Vec::new(heap);
-    for n in front {
-        bytes.extend_from_slice(&n.to_le_bytes())?;
-    }
-    for record in records {
-        for n in record {
-            bytes.extend_from_slice(&n.to_le_bytes())?;
-        }
-    }
-    Ok(bytes)
-}
 
 /// What an assert says in a test, where no handle is at hand that may end the process.
 fn expect(holds: bool) -> Result<(), Fail>
@@ -118,7 +90,7 @@ fn equal_cells_share_a_record(rt: HostRuntime) -> Result<(), Fail> {
     ];
     let records = [[0, 1, 1, 5, 2], [2, 3, 0, 5, 0], [0, 3, 1, 300, 0]];
     goes_round(
-        &grid(heap, 2, 4, &cells)?,
+        &grid(heap, 2, 4, 0, &cells)??,
         bytes_of(heap, &[2, 4, 0, 3, 1, 3], &records)?,
     )
 }
@@ -127,7 +99,7 @@ fn equal_cells_share_a_record(rt: HostRuntime) -> Result<(), Fail> {
 fn six_states_take_140_bytes(rt: HostRuntime) -> Result<(), Fail> {
     let heap = rt.alloc();
     goes_round(
-        &grid(heap, 6, 2, &CELLS)?,
+        &grid(heap, 6, 2, 0, &CELLS)??,
         bytes_of(heap, &FRONT, &RECORDS)?,
     )
 }
@@ -136,20 +108,15 @@ fn six_states_take_140_bytes(rt: HostRuntime) -> Result<(), Fail> {
 fn a_refusal_changes_no_byte(rt: HostRuntime) -> Result<(), Fail> {
     let heap = rt.alloc();
     let mut out = [7u8; 139];
-    let short = write_chain(&grid(heap, 6, 2, &CELLS)?, &mut out);
+    let short = write_chain(&grid(heap, 6, 2, 0, &CELLS)??, &mut out);
     assert_eq!(rt; short, Err(WriteRefusal::Short { needed: 140 }));
-    let fault = StoredFault {
-        cause: Cause::Blank,
-        state: 1,
-        input: 0,
-        place: 1,
-    };
+    let fault = fault(Cause::Blank, 1, 0, 1);
     let hole = CheckRefusal::Hole {
         state: 1,
         input: 0,
         fault,
     };
-    let blank = grid(heap, 2, 1, &[(0, 0), (BLANK, 0)])?;
+    let blank = grid(heap, 2, 1, 0, &[(0, 0), (BLANK, 0)])??;
     assert_eq!(rt;
         write_chain(&blank, &mut out),
         Err(WriteRefusal::Unsound(hole))
@@ -174,12 +141,7 @@ fn a_chain_is_put_in_normal_form(rt: HostRuntime) -> Result<(), Fail> {
         Some(NormalRefusal::Unopened(OpenRefusal::Front))
     );
     let holed = bytes_of(heap, &[1, 2, 0, 1, 1], &[[0, 0, 0, 9, 0]])?;
-    let fault = StoredFault {
-        cause: Cause::Blank,
-        state: 0,
-        input: 1,
-        place: 1,
-    };
+    let fault = fault(Cause::Blank, 0, 1, 1);
     let hole = CheckRefusal::Hole {
         state: 0,
         input: 1,
@@ -211,15 +173,8 @@ fn a_misfit_is_not_written(rt: HostRuntime) -> Result<(), Fail> {
 #[test]
 fn the_largest_chain_takes_41224_bytes(rt: HostRuntime) -> Result<(), Fail> {
     let heap = rt.alloc();
-    let mut next = Vec::new(heap);
-    let mut outputs = Vec::new(heap);
-    for s in 0..128u16 {
-        for number in 0..32u16 {
-            next.push(s)?;
-            outputs.push(Command { number })?;
-        }
-    }
-    let grid = Grid::open(128, 32, 127, next, outputs)?;
+    let cells: Vec<(u16, u16)> = (0..4096u16).map(|i| (i / 32, i % 32)).collect(heap)?;
+    let grid = grid(heap, 128, 32, 127, &cells)??;
     let mut short = vec![in heap; 7u8; 41223]?;
     assert_eq!(rt;
         write_chain(&grid, &mut short),

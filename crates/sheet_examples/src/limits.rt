@@ -2,22 +2,24 @@
 use forms::{Grid, Ring};
 use layers::{Beside, Keymap};
 use machine::{Command, Fault, WheelMove};
+use samples::grid;
 use sheet::{Pair, Refusal, Round, Settling, Sheet, Table};
 use std::alloc::Global;
 use std::test::Fail;
+
+fn lifted(lift: i16) -> WheelMove {
+    WheelMove {
+        lift,
+        gamma: 0,
+        gain: 0,
+    }
+}
 
 #[test]
 fn moves_within_a_step_are_alike(rt: HostRuntime) -> Result<(), Fail> {
     let heap = rt.alloc();
     let next = [0, 1, 2].to_vec(heap)?;
-    let mut outputs = Vec::new(heap);
-    for lift in [14, 6, 15] {
-        outputs.push(WheelMove {
-            lift,
-            gamma: 0,
-            gain: 0,
-        })?;
-    }
+    let outputs = [14, 6, 15].map(lifted).to_vec(heap)?;
     let mut sheet = Sheet::open(Grid::open(3, 1, 0, next, outputs)?);
     assert_eq!(rt;
         sheet.settle(),
@@ -75,15 +77,10 @@ fn one_state_settles_at_once(rt: HostRuntime) -> Result<(), Fail> {
 
 /// Each state leads to the one below it, and only state 0 has another command.
 fn stairs(heap: Global) -> Result<Grid<Command>, Fail> {
-    let mut next = Vec::new(heap);
-    let mut outputs = Vec::new(heap);
-    for s in 0..128u16 {
-        next.push(if s > 0 { s - 1 } else { 0 })?;
-        outputs.push(Command {
-            number: if s > 0 { 0 } else { 1 },
-        })?;
-    }
-    Ok(Grid::open(128, 1, 0, next, outputs)?)
+    let cells: Vec<(u16, u16)> = (0..128u16)
+        .map(|s| (s.saturating_sub(1), u16::from(s == 0)))
+        .collect(heap)?;
+    Ok(grid(heap, 128, 1, 0, &cells)??)
 }
 
 #[test]
@@ -122,22 +119,11 @@ fn equal_rings_of_a_pile_join(rt: HostRuntime) -> Result<(), Fail> {
     Ok(())
 }
 
-fn lifted(lift: i16) -> WheelMove {
-    WheelMove {
-        lift,
-        gamma: 0,
-        gain: 0,
-    }
-}
-
 #[test]
 fn a_class_has_the_outputs_of_its_lowest_state(rt: HostRuntime) -> Result<(), Fail> {
     let heap = rt.alloc();
     let next = [1, 0, 2].to_vec(heap)?;
-    let mut outputs = Vec::new(heap);
-    for lift in [14, 6, 15] {
-        outputs.push(lifted(lift))?;
-    }
+    let outputs = [14, 6, 15].map(lifted).to_vec(heap)?;
     let mut sheet = Sheet::open(Grid::open(3, 1, 1, next, outputs)?);
     sheet.settle()?;
     let mut classes = [9u16; 3];

@@ -2,20 +2,15 @@
 use forms::Grid;
 use machine::{Command, Machine};
 use runs::{Answer, Call, Log, play};
+use samples::grid;
 use sheet::{Pair, Refusal, Round, Sheet, Table, TableBuffer};
+use six_states::CELLS;
 use std::alloc::Global;
 use std::test::Fail;
 use tables::open_table;
 
-/// Next states and commands, for inputs 0 and 1 of each state.
 fn six_states(heap: Global) -> Result<Grid<Command>, Fail> {
-    let next = [4, 5, 3, 2, 0, 1, 1, 5, 0, 2, 2, 0].to_vec(heap)?;
-    let numbers = [0, 0, 0, 0, 1, 0, 0, 0, 0, 0, 1, 0];
-    let mut outputs = Vec::new(heap);
-    for number in numbers {
-        outputs.push(Command { number })?;
-    }
-    Ok(Grid::open(6, 2, 0, next, outputs)?)
+    Ok(grid(heap, 6, 2, 0, &CELLS)??)
 }
 
 #[test]

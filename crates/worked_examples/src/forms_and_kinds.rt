@@ -2,25 +2,10 @@
 use forms::rings::{BACK, FORWARD, STAY};
 use forms::{Grid, OpenRefusal, Ring};
 use machine::outputs::to_hundredths;
-use machine::{Cause, Cell, CheckRefusal, Command, Machine, Output, StoredFault, WheelMove, check};
+use machine::{Cause, CheckRefusal, Command, Machine, Output, WheelMove, check};
+use samples::{cell, fault};
 use std::alloc::Global;
 use std::test::Fail;
-
-fn cell(next: u16, number: u16) -> Cell<Command> {
-    Cell {
-        next,
-        output: Command { number },
-    }
-}
-
-fn fault(cause: Cause, state: u16, input: u16, place: usize) -> StoredFault {
-    StoredFault {
-        cause,
-        state,
-        input,
-        place,
-    }
-}
 
 #[test]
 fn offsets_go_to_the_nearest_hundredth(rt: HostRuntime) {
@@ -193,12 +178,8 @@ fn lists_that_are_too_long_are_refused(rt: HostRuntime) -> Result<(), Fail> {
 #[test]
 fn a_grid_counts_places_row_by_row(rt: HostRuntime) -> Result<(), Fail> {
     let heap = rt.alloc();
-    let next = [0, 1, 0, 1, 2, 65535].to_vec(heap)?;
-    let mut outputs = Vec::new(heap);
-    for number in [10, 11, 12, 13, 14, 15] {
-        outputs.push(Command { number })?;
-    }
-    let grid = Grid::open(2, 3, 0, next, outputs)?;
+    let cells = [(0, 10), (1, 11), (0, 12), (1, 13), (2, 14), (65535, 15)];
+    let grid = samples::grid(heap, 2, 3, 0, &cells)??;
     assert_eq!(rt; grid.entry(0, 1), Ok(cell(1, 11)));
     assert_eq!(rt; grid.entry(1, 0), Ok(cell(1, 13)));
     assert_eq!(rt; grid.entry(1, 1), Err(fault(Cause::Next, 1, 1, 4)));

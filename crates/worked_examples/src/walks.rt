@@ -1,51 +1,28 @@
 //! Chains opened at their limits, and walks along records that overlap, lead back or end.
 use forms::{Chain, OpenRefusal};
-use machine::{Cause, Cell, Command, Machine, StoredFault};
+use machine::{Cause, Machine};
+use samples::{bytes_of, cell, fault};
 use std::alloc::Global;
 use std::test::Fail;
-
-fn bytes_of(heap: Global, numbers: &[u16]) -> Result<Vec<u8>, Fail> {
-    let mut bytes = Vec::new(heap);
-    for n in numbers {
-        bytes.extend_from_slice(&n.to_le_bytes())?;
-    }
-    Ok(bytes)
-}
-
-fn cell(number: u16) -> Result<Cell<Command>, StoredFault> {
-    Ok(Cell {
-        next: 0,
-        output: Command { number },
-    })
-}
-
-fn fault(cause: Cause, state: u16, input: u16, place: usize) -> Result<Cell<Command>, StoredFault> {
-    Err(StoredFault {
-        cause,
-        state,
-        input,
-        place,
-    })
-}
 
 #[test]
 fn the_first_record_that_serves_gives_the_cell(rt: HostRuntime) -> Result<(), Fail> {
     // both records serve input 1; the link of the second leads nowhere, which only input 3 finds out
     let numbers = [1, 4, 0, 2, 1, 0, 1, 0, 5, 2, 1, 2, 0, 6, 9];
-    let chain = Chain::open(bytes_of(rt.alloc(), &numbers)?)?;
-    assert_eq!(rt; chain.entry(0, 0), cell(5));
-    assert_eq!(rt; chain.entry(0, 1), cell(5));
-    assert_eq!(rt; chain.entry(0, 2), cell(6));
-    assert_eq!(rt; chain.entry(0, 3), fault(Cause::Link, 0, 3, 2));
+    let chain = Chain::open(bytes_of(rt.alloc(), &numbers, &[])?)?;
+    assert_eq!(rt; chain.entry(0, 0), Ok(cell(0, 5)));
+    assert_eq!(rt; chain.entry(0, 1), Ok(cell(0, 5)));
+    assert_eq!(rt; chain.entry(0, 2), Ok(cell(0, 6)));
+    assert_eq!(rt; chain.entry(0, 3), Err(fault(Cause::Link, 0, 3, 2)));
     Ok(())
 }
 
 #[test]
 fn a_range_turned_around_serves_nothing(rt: HostRuntime) -> Result<(), Fail> {
     let numbers = [1, 2, 0, 1, 1, 1, 0, 0, 5, 0];
-    let chain = Chain::open(bytes_of(rt.alloc(), &numbers)?)?;
-    assert_eq!(rt; chain.entry(0, 0), fault(Cause::Blank, 0, 0, 1));
-    assert_eq!(rt; chain.entry(0, 1), fault(Cause::Blank, 0, 1, 1));
+    let chain = Chain::open(bytes_of(rt.alloc(), &numbers, &[])?)?;
+    assert_eq!(rt; chain.entry(0, 0), Err(fault(Cause::Blank, 0, 0, 1)));
+    assert_eq!(rt; chain.entry(0, 1), Err(fault(Cause::Blank, 0, 1, 1)));
     Ok(())
 }
 
@@ -53,19 +30,19 @@ fn a_range_turned_around_serves_nothing(rt: HostRuntime) -> Result<(), Fail> {
 fn states_and_inputs_are_tested_before_a_walk(rt: HostRuntime) -> Result<(), Fail> {
     // the record serves more inputs than there are
     let numbers = [1, 2, 0, 1, 1, 0, 9, 0, 5, 0];
-    let chain = Chain::open(bytes_of(rt.alloc(), &numbers)?)?;
-    assert_eq!(rt; chain.entry(1, 2), fault(Cause::State, 1, 2, 0));
-    assert_eq!(rt; chain.entry(0, 2), fault(Cause::Input, 0, 2, 0));
-    assert_eq!(rt; chain.entry(0, 1), cell(5));
+    let chain = Chain::open(bytes_of(rt.alloc(), &numbers, &[])?)?;
+    assert_eq!(rt; chain.entry(1, 2), Err(fault(Cause::State, 1, 2, 0)));
+    assert_eq!(rt; chain.entry(0, 2), Err(fault(Cause::Input, 0, 2, 0)));
+    assert_eq!(rt; chain.entry(0, 1), Ok(cell(0, 5)));
     Ok(())
 }
 
 #[test]
 fn a_link_back_is_broken(rt: HostRuntime) -> Result<(), Fail> {
     let numbers = [1, 3, 0, 2, 1, 0, 0, 0, 5, 2, 1, 1, 0, 6, 1];
-    let chain = Chain::open(bytes_of(rt.alloc(), &numbers)?)?;
-    assert_eq!(rt; chain.entry(0, 1), cell(6));
-    assert_eq!(rt; chain.entry(0, 2), fault(Cause::Link, 0, 2, 2));
+    let chain = Chain::open(bytes_of(rt.alloc(), &numbers, &[])?)?;
+    assert_eq!(rt; chain.entry(0, 1), Ok(cell(0, 6)));
+    assert_eq!(rt; chain.entry(0, 2), Err(fault(Cause::Link, 0, 2, 2)));
     Ok(())
 }
 
@@ -79,9 +56,12 @@ fn chains_are_refused_in_order(rt: HostRuntime) -> Result<(), Fail> {
         ([1, 1, 0, 0], OpenRefusal::Length),
     ];
     for (numbers, refusal) in refusals {
-        assert_eq!(rt; Chain::open(bytes_of(heap, &numbers)?).err(), Some(refusal));
+        assert_eq!(rt;
+            Chain::open(bytes_of(heap, &numbers, &[])?).err(),
+            Some(refusal)
+        );
     }
-    let mut odd = bytes_of(heap, &[1, 1, 0, 0, 0])?;
+    let mut odd = bytes_of(heap, &[1, 1, 0, 0, 0], &[])?;
     assert!(rt; Chain::open(odd.clone()?).is_ok());
     odd.push(0)?;
     assert_eq!(rt; Chain::open(odd).err(), Some(OpenRefusal::Length));
@@ -94,7 +74,7 @@ fn opened(heap: Global, m: u16) -> Result<Option<OpenRefusal>, Fail> {
     numbers[0] = 1;
     numbers[1] = 1;
     numbers[3] = m;
-    Ok(Chain::open(bytes_of(heap, &numbers)?).err())
+    Ok(Chain::open(bytes_of(heap, &numbers, &[])?).err())
 }
 
 #[test]
