@@ -148,6 +148,7 @@ impl<M: Machine> Done<M> {
         requires within { class < length leaders.now }
         ensures { OnOk result (map apart_of aparts.new.items ≡ map apart_of aparts.old.items ++ aparts_above (stage_of self.now.sheet).machine self.now.sheet.rounds leaders.now class) }
     {
+        // stays: over `leaders.iter().enumerate().skip(class + 1)` the proof didn't close: its check hadn't ended after five minutes
         for other in class + 1..leaders.len() {
             let word = self.word(heap, leaders[class], leaders[other])?;
             aparts.push(Apart {

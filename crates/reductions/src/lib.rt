@@ -28,6 +28,7 @@ pub struct Reduction<O> {
     pub settling: Settling,
     pub table: Table,
     pub map: Vec<u16>,
+    // stays: next states and outputs in two lists, since a sheet's `table` writes them into two buffers, and `open_table` takes them so
     pub next: Vec<u16>,
     pub outputs: Vec<O>,
     pub aparts: Vec<Apart>,

@@ -70,6 +70,7 @@ fn ask<M: Machine>(
     }
 }
 
+// stays: three buffers: in a struct `numbers.old` is `to.old.numbers.now`, and each has a clause `to.new.numbers.ghost_name ≡ ..` more
 /// Opens a machine and plays the calls one after the other, each noted with the buffers as it left them, until the recorder stops.
 pub fn play<M: Machine + Drop, R: Recorder<M::Out>>(
     machine: M,

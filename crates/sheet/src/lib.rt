@@ -11,7 +11,7 @@ use machine::{Machine, Output};
 /// A machine, and what is known of its states so far.
 /// Row j holds the block number of each state in the partition P j; `parts` counts the blocks of the last one taken.
 /// All of it is a function of the machine's meaning, of `rounds` and of `settled`.
-// stays: rows in an array, beside `rounds`: with a list that can be empty each call would have to say what the last row is where there is none
+// stays: an array beside `rounds`: `rows: ArrayVec<[u8; 128], 128>` can be empty, so `rows.last()` and `push` would have a case that never comes
 #[derive(Drop)]
 pub struct Sheet<M: Machine> {
     machine: M,
