@@ -14,7 +14,7 @@ pub const MOST_STATES: u16 = 128;
 pub const MOST_INPUTS: u16 = 32;
 
 /// One entry of a state table: where the panel goes, and what it puts out.
-#[derive(Clone, Copy, PartialEq, Eq, Debug)]
+#[derive(Clone, Copy, PartialEq, Eq, Debug, Default)]
 pub struct Cell<O> {
     pub next: u16,
     pub output: O,
