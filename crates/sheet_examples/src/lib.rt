@@ -4,4 +4,4 @@
 #[cfg(test)]
 mod limits;
 #[cfg(test)]
-mod six_states;
+mod worked_by_hand;
