@@ -18,6 +18,7 @@ pub extern "C" fn bridge_play(heap: Global, script: &[u16], out: &mut [u8]) -> u
 {
     match play_script(heap, script) {
         Ok(text) => hand_over(text.as_bytes(), out),
+        // stays: C has no Option
         Err(_) => usize::MAX,
     }
 }

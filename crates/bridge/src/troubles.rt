@@ -5,6 +5,7 @@ ghost use Rattle.bridge.specs.declared.troubles.Trouble.TheVariants.{Open, Memor
 use forms::OpenRefusal;
 use std::alloc::{AllocError, AllocFailed};
 
+// stays: as in stacks but for the output, which is none of a library; one type for both would need a crate for two variants
 /// A form that does not open, or no memory.
 #[derive(Drop)]
 pub(crate) enum Trouble {

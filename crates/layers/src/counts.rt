@@ -5,6 +5,7 @@ ghost use Rattle.layers.specs.Layers.{bounds_test};
 use crate::LayerFault;
 use machine::test_range;
 
+// stays: states(), inputs() and start() in each of the three layers; an `impl<L: Layer> Machine for L` would lap over the impls of the forms
 /// The counts of a layer whose parts go together; one whose parts do not has none.
 #[derive(Clone, Copy)]
 pub(crate) struct Counts {

@@ -56,6 +56,7 @@ fn push_map(text: &mut String, numbering: &[u16]) -> Result<(), AllocError>
     write!(text, "\n")
 }
 
+// stays: a loop over the classes as in views; with `each_class(text, reduction, |text, class| ..)` the closure would need clauses of its own
 fn push_rows(text: &mut String, reduction: &Reduction<Command>) -> Result<(), AllocError>
     ensures { OnOk result (string_bytes text.new ≡ string_bytes text.old ++ rows_text (lists_in reduction.now)) }
 {

@@ -38,6 +38,7 @@ pub trait Machine {
     fn start(&self) -> u16
         ensures { result ≡ (means self.now).start };
 
+    // stays: state and input as two numbers, here and below, as a table is asked; a struct of the two each form would take apart first
     /// The cell of a state at an input, or why there is none.
     fn entry(&self, state: u16, input: u16) -> Result<Cell<Self::Out>, Self::Fault>
         ensures { result ≡ (means self.now).entry state input };

@@ -23,6 +23,7 @@ pub struct Numbering<'a, M> {
     pub row: &'a [u8; 128],
 }
 
+// stays: s and t as two numbers, here and in the sheet: a struct of two states would have no fact and no method of its own
 impl<'a, M: Machine> Numbering<'a, M> {
     /// Whether two states have one number.
     fn in_one_block(&self, a: u16, b: u16) -> bool

@@ -5,6 +5,7 @@ ghost use Rattle.runs.specs.Lines.{entry_at};
 use crate::{Answer, Call, Recorder};
 use std::alloc::{AllocError, Global};
 
+// stays: three lists beside each other, as long as the caller's buffers are, each of a length of its own
 /// One entry: a call, its answer, and the buffers as it left them.
 #[derive(Drop)]
 pub struct Line<O> {

@@ -50,6 +50,7 @@ pub fn grid(
     Ok(Grid::open(states, inputs, start, next, outputs))
 }
 
+// stays: two functions of one line, since with both chains in `grid` its `returns` stayed open
 fn nexts(heap: Global, cells: &[(u16, u16)]) -> Result<Vec<u16>, AllocError>
     ensures { IfOk result (λ v. v.items ≡ map (λ c. c.0) cells.now) }
 {

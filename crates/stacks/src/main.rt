@@ -9,6 +9,7 @@ use machine::{CheckRefusal, Fault, Machine, WheelMove, check};
 use std::alloc::{AllocFailed, Global};
 use std::{fmt, io};
 
+// stays: with anyhow a refused part would be told by other words than `Error: Open(Size)`, and an opening's refusal needs a text for it
 /// What can go wrong on the way: a part that does not open, no memory, or a broken output.
 #[derive(Debug, Drop)]
 enum Trouble {

@@ -32,6 +32,7 @@ pub fn cards_tell_modes()
     ensures { CardTellsModes }
 {}
 
+// stays: a loop over the classes as in listings, where the line shows why
 fn push_modes(text: &mut String, reduction: &Reduction<Command>) -> Result<(), AllocError>
     ensures { OnOk result (string_bytes text.new ≡ string_bytes text.old ++ modes_text (lists_in reduction.now)) }
 {

@@ -29,6 +29,7 @@ impl View for Drawing {
     }
 }
 
+// stays: a loop over the classes as in listings, where the line shows why
 fn push_classes(text: &mut String, reduction: &Reduction<Command>) -> Result<(), AllocError>
     ensures { OnOk result (string_bytes text.new ≡ string_bytes text.old ++ classes_text (lists_in reduction.now)) }
 {
