@@ -120,6 +120,11 @@ module _ (t : Stage) (so : t.sound ≡ true) (fresh : t.settled ≡ false) where
       sym (cond-false (settles_in m t.rounds) (Ok (round.Settled (block_count m t.rounds))) _ (ne_eqb _ _ (λ e. goes_on (settled_from m t.rounds (omega (arith, e))))))
       ∙ still_open t _ fresh ∙ heard t _ so
 
+-- What is answered past both tests of a call on two states is its reply.
+pub through : {A B : Type 0} (t : Stage) (s u : ℕ) (y z : A) → Ok z ≡ when_sound t (when_states t s u (Ok y))
+    → (x : Result B Refusal) → x ≡ when_sound t (when_states t s u x)
+through t s u y z h x = let is = states_so t y z s u h in states t x s u is.1 is.2 ∙ heard t _ is.0
+
 -- What `ok_or` says of an option.
 pub some_so : (o : Option ℕ) (e : Refusal) (j : ℕ) → Ok j ≡ ok_or o e → Some j ≡ o
 some_so (Some x) e j h = cc h

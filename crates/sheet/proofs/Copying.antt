@@ -42,10 +42,6 @@ some_width x b k h =
     (λ (q : k ≤ 0). let z : k ≡ 0 = omega arith in let e : b * k ≡ 0 = ap (λ (y : ℕ). b * y) z ∙ mul-zero b in absurd (omega arith))
     (cases_lt 0 k)
 
--- A product of equal numbers.
-pub total_is : (a b x y : ℕ) → a ≡ b → x ≡ y → a * x ≡ b * y
-total_is a b x y e f = ap (λ (z : ℕ). z * x) e ∙ ap (λ (z : ℕ). b * z) f
-
 -- What was found in the front of a row is the lowest place.
 pub place_is_found : (row : List ℕ) (n c : ℕ) (found : Option ℕ) → n ≤ length row
     → MatchOption found (AllWithin (λ x. eqb x c ≡ false) (take n row) 0 (length (take n row)))

@@ -1,5 +1,5 @@
 -- What a sheet keeps: fresh, after a round that settled, and after one that split; and what that says of its machine.
-use Rattle.std.proofs.Common.{◌≡◌, ℕ, suc, ◌+◌, ◌<◌, ◌≤◌, Bool, true, false, not, eqb, List, [], get_or, take, set, length, replicate, ltb, leb, cond, Some, None, ℤ, sym, refl, ap, ◌∙◌, subst, ⊎_elim, add-one, arith}
+use Rattle.std.proofs.Common.{◌≡◌, ℕ, suc, ◌+◌, ◌*◌, ◌<◌, ◌≤◌, Bool, true, false, not, eqb, List, [], get_or, take, set, length, replicate, ltb, leb, cond, Some, None, ℤ, sym, refl, ap, ◌∙◌, subst, ⊎_elim, add-one, arith}
 use Rattle.std.specs.List.{position, position_or_len}
 use Rattle.std.proofs.lemmas.Bool.{true≢false, cases_eq, cases_Bool, cond-true, cond-false, not-true, lt-ltb, le-ltb, leb-true, leb-false}
 use Rattle.std.proofs.lemmas.List.{length-take-le, get_or-take}
@@ -25,6 +25,7 @@ use Rattle.sheet.specs.Kept.{KeptAt, Splits, row_at, rows_of}
 use Rattle.sheet.specs.Replies.{parted_in}
 use Rattle.sheet.specs.Stage.{Stage, stage_at}
 use Rattle.sheet.specs.Standing.{stage_of}
+use Rattle.sheet.specs.Steps.{Blocks}
 use Rattle.sheet.proofs.Rows.{row_is, rows_fresh, rows_more}
 
 -- One more round splits.
@@ -103,6 +104,11 @@ module _ {M O F : Type 0} {g : machines.Ghosts M O F} {o : outputs.Ghosts O} {f 
       ap (λ (x : List (List ℕ)). get_or (get_or x j []) u 0) s.kept.holds
       ∙ ap (λ (x : List ℕ). get_or x u 0) (row_is (stage_of s).machine s.rounds j l (omega (arith, s.early, s.few)))
       ∙ row_numbered (stage_of s).machine (few_states (g.means s.machine) sizes) j u h
+
+  -- The last row taken, and its cells.
+  pub blocks_kept : Sizes (g.means s.machine) → (stage_of s).sound ≡ true → (k : ℕ) → k ≡ (g.means s.machine).inputs
+      → Blocks o.key (g.means s.machine) (get_or s.rows s.rounds []) s.rounds (s.parts * k)
+  blocks_kept sizes so k e = record { sound = so; held = held sizes s.rounds (omega arith); all = cc (counted so, e) }
 
   -- The next partition, made from the last row: where it has no more blocks the sheet has settled, and else it has not.
   module _ (sizes : Sizes (g.means s.machine)) (so : (stage_of s).sound ≡ true) (row : List ℕ) (parts : ℕ)

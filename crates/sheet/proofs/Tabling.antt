@@ -1,5 +1,5 @@
 -- The table written is the machine of the blocks.
-use Rattle.std.proofs.Common.{◌≡◌, ℕ, ◌+◌, ◌*◌, ◌/◌, ◌%◌, ◌<◌, ◌≤◌, true, eqb, List, [], ◌∷◌, ◌++◌, map, length, get_or, take, drop, set, ℤ, Option, None, is_ok, Ok, Err, Result, sym, refl, ap, ◌∙◌, subst, mod-lt, arith, below_more}
+use Rattle.std.proofs.Common.{◌≡◌, ℕ, ◌+◌, ◌*◌, ◌/◌, ◌%◌, ◌<◌, ◌≤◌, true, eqb, List, [], ◌∷◌, ◌++◌, map, length, get_or, take, drop, set, ℤ, Option, Some, None, is_ok, Ok, Err, Result, sym, refl, ap, ◌∙◌, subst, mod-lt, arith, below_more}
 use lib.Arith.{digits_div, digits_mod}
 use Rattle.std.specs.List.{slice_get, range_with_len}
 use Rattle.std.proofs.lemmas.Nat.{mul-add-lt}
@@ -19,57 +19,53 @@ use Rattle.mealy.specs.Words.{Word, Equivalent}
 use Rattle.mealy.proofs.Reduced.{leader_of_is, reduced_closed, reduced_is_equivalent, reduced_is_smallest, block_equivalent}
 use Rattle.mealy.proofs.Telling.{AnswerAlike, answers_equivalent, equivalent_answers}
 use Rattle.rounds.specs.Joining.{some_below}
-use Rattle.rounds.specs.Rows.{Numbered}
-use Rattle.rounds.proofs.Firsts.{below_none}
+use Rattle.rounds.proofs.Firsts.{below_some, below_none}
 use Rattle.rounds.proofs.Passes.{lowest_same}
-use Rattle.sheet.specs.Steps.{Front}
+use Rattle.sheet.specs.Steps.{Blocks, Front}
 use Rattle.sheet.specs.Tables.{next_at, output_of, OutputsWritten, key_at, table_mealy}
 use Rattle.sheet.proofs.Copying.{rest_more, nth_set_same, nth_set_below, row_below, some_width}
 
 -- One more cell written.
-module _ {O F : Type 0} (key : O → List ℤ) (m : Meaning O F) (closed : meaning.Closed m) (sound : sound_by m ≡ true)
-    (j : ℕ) (row : List ℕ) (held : Numbered (mealy_of key m) j row) where
+module _ {O F : Type 0} {key : O → List ℤ} {m : Meaning O F} {row : List ℕ} {j total : ℕ} (b : Blocks key m row j total) (x : ℕ) (in-all : x < total) where
   abbrev N : Mealy
   N = mealy_of key m
 
-  -- The first state with the number of a class leads it.
-  first_leads : (c : ℕ) → lowest m.states (λ s. eqb (get_or row s 0) c) ≡ leader_of N j c
-  first_leads c = lowest_same m.states _ _ (λ s l. ap (λ (x : ℕ). eqb x c) (held s l))
+  low : x < block_count N j * m.inputs
+  low = omega (arith, b.all)
 
-  -- Some state leads the class at place x.
-  pub some_state : (x : ℕ) → x < block_count N j * m.inputs
-      → some_below m.states (lowest m.states (λ u. eqb (get_or row u 0) (x / m.inputs))) ≡ None → ⊥
-  some_state x low none =
-      let over : m.states ≤ leader_of N j (x / m.inputs) =
-      subst (λ (y : ℕ). m.states ≤ y) (first_leads (x / m.inputs)) (below_none m.states _ none) in
-      let at = leader_of_is N j (x / m.inputs) (row_below x m.inputs (block_count N j) (some_width x (block_count N j) m.inputs low) low) in
-      omega (arith, at.0)
+  -- The first state with the number of the class at place x leads it,
+  abbrev found : Option ℕ
+  found = some_below m.states (lowest m.states (λ u. eqb (get_or row u 0) (x / m.inputs)))
 
-  -- The state whose cell stands at place x, and its input.
-  module _ (x s : ℕ) (low : x < block_count N j * m.inputs) (is : s ≡ lowest m.states (λ u. eqb (get_or row u 0) (x / m.inputs))) where
+  leads : lowest m.states (λ u. eqb (get_or row u 0) (x / m.inputs)) ≡ leader_of N j (x / m.inputs)
+  leads = lowest_same m.states _ _ (λ s l. ap (λ (y : ℕ). eqb y (x / m.inputs)) (b.held s l))
+
+  leader_is : leader_of N j (x / m.inputs) < m.states
+  leader_is =
+      (leader_of_is N j (x / m.inputs) (row_below x m.inputs (block_count N j) (some_width x (block_count N j) m.inputs low) low)).0
+
+  -- so there is one.
+  pub some_state : found ≡ None → ⊥
+  some_state none = omega (arith, below_none m.states _ none, leads, leader_is)
+
+  module _ (s : ℕ) (here : found ≡ Some s) where
     leader_at : s ≡ leader_of N j (x / m.inputs)
-    leader_at = is ∙ first_leads (x / m.inputs)
-
-    input_at : x % m.inputs < m.inputs
-    input_at = mod-lt x (some_width x (block_count N j) m.inputs low)
-
-    state_at : s < m.states
-    state_at =
-        subst (λ (y : ℕ). y < m.states) (sym leader_at)
-        (leader_of_is N j (x / m.inputs) (row_below x m.inputs (block_count N j) (some_width x (block_count N j) m.inputs low) low)).0
+    leader_at = (below_some m.states _ s here).0 ∙ leads
 
     -- There is no fault there,
-    pub table_filled : (f : F) → m.entry s (x % m.inputs) ≡ Err f → ⊥
-    table_filled f e = true≢false (sym (sound_filled m sound s (x % m.inputs) state_at input_at) ∙ ap is_ok e)
+    pub table_filled : (e : F) → m.entry s (x % m.inputs) ≡ Err e → ⊥
+    table_filled e h =
+        true≢false (sym (sound_filled m b.sound s (x % m.inputs) (below_some m.states _ s here).1
+        (mod-lt x (some_width x (block_count N j) m.inputs low))) ∙ ap is_ok h)
 
     -- and its cell is the next one of the table.
-    pub front_one : (next : List ℕ) (outs : List O) (next' : List ℕ) (outs' : List O) (c : Cell O)
+    pub front_one : meaning.Closed m → {next : List ℕ} {outs : List O} {next' : List ℕ} {outs' : List O} (c : Cell O)
         → m.entry s (x % m.inputs) ≡ Ok c → x < length next' → x < length outs'
         → Front key m j x next outs next' outs'
         → Front key m j (x + 1) next outs (set next' x (get_or row c.next 0)) (set outs' x c.output)
-    front_one next outs next' outs' c e ln lo so =
+    front_one closed {next} {outs} {next'} {outs'} c e ln lo so =
         let written : get_or row c.next 0 ≡ next_at N j x =
-        held c.next (closed s (x % m.inputs) c e)
+        b.held c.next (closed s (x % m.inputs) c e)
         ∙ ap (block N j) (sym (ap next_of e)) ∙ ap (λ (u : ℕ). block N j (N.next u (x % m.inputs))) leader_at in
         record {
           nexts =
@@ -169,11 +165,3 @@ pub next_read : (N : Mealy) (j n : ℕ) (rest : List ℕ) (y : ℕ) → y < n
 next_read N j n rest y h =
     get_or_append_left (map (next_at N j) (range_with_len 0 n)) rest 0 y (omega (arith, length-map-range_with_len (next_at N j) 0 n))
     ∙ get_or-map-range_with_len (next_at N j) 0 n y y 0 h (omega arith)
-
--- The state found, by the machine's own counts.
-pub found_as : (row : List ℕ) (x : ℕ) (found : Option ℕ) (n n' k k' : ℕ)
-    → found ≡ some_below n (lowest n (λ u. eqb (get_or row u 0) (x / k))) → n ≡ n' → k ≡ k'
-    → found ≡ some_below n' (lowest n' (λ u. eqb (get_or row u 0) (x / k')))
-found_as row x found n n' k k' e p q =
-    e ∙ ap (λ (z : ℕ). some_below z (lowest z (λ u. eqb (get_or row u 0) (x / k)))) p
-    ∙ ap (λ (z : ℕ). some_below n' (lowest n' (λ u. eqb (get_or row u 0) (x / z)))) q

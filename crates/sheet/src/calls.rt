@@ -8,7 +8,7 @@ ghost use Rattle.sheet.specs.Replies.{when_sound, when_open, when_states, round_
 ghost use Rattle.sheet.specs.Tables.{table_reply, next_after, OutputsAfter};
 ghost use Rattle.sheet.specs.Means.{RoundMeans, SettleMeans, PairMeans, MapMeans, WordMeans, TableMeans};
 
-use crate::steps::{blank, copy_front, fill, first_apart, spell};
+use crate::steps::{blank, copy_front, fill, first_apart};
 use crate::{Pair, Refusal, Round, Settling, Sheet, Table, TableBuffer};
 use machine::{Machine, Output, check};
 use rounds::Numbering;
@@ -162,7 +162,7 @@ impl<M: Machine> Sheet<M> {
         if out.len() < j {
             return Err(Refusal::Short { needed: j });
         }
-        spell(&self.machine, &self.rows, j, s, t, out);
+        self.spell(j, s, t, out);
         Ok(j)
     }
 

@@ -15,6 +15,7 @@ use machine::{Machine, Output};
 #[derive(Drop)]
 pub struct Sheet<M: Machine> {
     machine: M,
+    // stays: two facts, not an Option or a Result: the machine, its rounds, parts and rows are there whether or not they hold
     sound: bool,
     settled: bool,
     rounds: usize,

@@ -1,9 +1,11 @@
 //! The loops behind the calls, over rows of block numbers.
-ghost use Rattle.std.specs.Prelude.{◌≡◌, ℕ, ◌+◌, ◌*◌, ◌<◌, ◌≤◌, not, List, [], ◌++◌, length, take, drop, replicate, ◌==◌, nat_eq, slice_index, position};
+ghost use Rattle.std.specs.Prelude.{◌≡◌, ℕ, ◌*◌, ◌<◌, ◌≤◌, not, ◌++◌, length, take, drop, replicate, ◌==◌, nat_eq, slice_index, position};
 ghost use Rattle.mealy.specs.Below.{lowest};
 ghost use Rattle.rounds.specs.Joining.{some_below};
-ghost use Rattle.sheet.specs.Steps.{Spelt, Tabled};
+ghost use Rattle.sheet.specs.Standing.{stage_of};
+ghost use Rattle.sheet.specs.Steps.{Apart, Blocks, Spelt, Tabled};
 
+use crate::Sheet;
 use machine::{Machine, Output};
 use rounds::Numbering;
 
@@ -40,39 +42,34 @@ fn first_with(row: &[u8; 128], n: usize, c: u8) -> Option<usize>
     row[..n].iter().position(|block| *block == c)
 }
 
-/// Writes the word of two states that P j sets apart: at each place the first input that does, by the partition before.
-pub(crate) fn spell<M: Machine>(
-    machine: &M,
-    rows: &[[u8; 128]; 128],
-    j: usize,
-    s: u16,
-    t: u16,
-    out: &mut [u16],
-)
-    requires room { (j < 128) × (j ≤ length out.old) }
-    ensures { Spelt M.Out.key (M.Machine.means machine.now) rows.now j s t out.old out.new }
-{
-    let mut a = s;
-    let mut b = t;
-    // stays: tried in copy_front, the proof knows nothing of what a zip over iter_mut() writes, as zip(rows[..j].iter().rev()) here
-    for place in 0..j {
-        let before = Numbering {
-            machine,
-            row: &rows[j - 1 - place],
-        };
-        // stays: nothing asked of callers says that the machine is sound, so unreachable!() can't be proved here and below
-        let Some(i) = before.first_input(a, b) else {
-            return;
-        };
-        let (Ok(x), Ok(y)) = (machine.entry(a, i), machine.entry(b, i)) else {
-            return;
-        };
-        out[place] = i;
-        if !x.output.alike(&y.output) {
-            return;
+impl<M: Machine> Sheet<M> {
+    /// Writes the word of two states that P j sets apart: at each place the first input that does, by the partition before.
+    pub(crate) fn spell(&self, j: usize, s: u16, t: u16, out: &mut [u16])
+        requires room { j ≤ length out.old }
+        requires apart { Apart (stage_of self.now) j s t }
+        ensures { Spelt (stage_of self.now) j s t out.old out.new }
+    {
+        let mut a = s;
+        let mut b = t;
+        // stays: tried in copy_front, the proof knows nothing of what a zip over iter_mut() writes, as zip(rows[..j].iter().rev()) here
+        for place in 0..j {
+            let before = Numbering {
+                machine: &self.machine,
+                row: &self.rows[j - 1 - place],
+            };
+            let Some(i) = before.first_input(a, b) else {
+                unreachable()
+            };
+            let (Ok(x), Ok(y)) = (self.machine.entry(a, i), self.machine.entry(b, i)) else {
+                unreachable()
+            };
+            out[place] = i;
+            if !x.output.alike(&y.output) {
+                return;
+            }
+            a = x.next;
+            b = y.next;
         }
-        a = x.next;
-        b = y.next;
     }
 }
 
@@ -84,6 +81,7 @@ pub(crate) fn fill<M: Machine>(
     next: &mut [u16],
     outputs: &mut [M::Out],
 )
+    requires blocks { (j : ℕ) × Blocks M.Out.Output.key (M.Machine.means machine.now) row.now j total }
     requires few { total ≤ 128 * (M.Machine.means machine.now).inputs }
     requires room { (total ≤ length next.old) × (total ≤ length outputs.old) }
     ensures { Tabled M.Out.Output.key (M.Machine.means machine.now) row.now total next.old outputs.old next.new outputs.new }
@@ -93,10 +91,10 @@ pub(crate) fn fill<M: Machine>(
     // stays: as in spell, the proof knows nothing of what a zip of the buffers' iter_mut() or chunks_mut() writes
     for x in 0..total {
         let Some(s) = first_with(row, n, (x / k) as u8) else {
-            return;
+            unreachable()
         };
         let Ok(cell) = machine.entry(s as u16, (x % k) as u16) else {
-            return;
+            unreachable()
         };
         next[x] = u16::from(row[cell.next as usize]);
         outputs[x] = cell.output;

@@ -1,6 +1,7 @@
 use Rattle.std.proofs.Common.{is_ok, ◌∙◌, arith}
 use Rattle.machine.specs.Theory.{sound_by}
-use Rattle.machine.proofs.Theory.{sound_decides, tests_agree}
+use Rattle.machine.proofs.Theory.{sound_decides}
+use Rattle.std.proofs.lemmas.Bool.Decides.{same_from_decides}
 use Rattle.sheet.proofs.Keeping.{kept_fresh}
 use Rattle.sheet.proofs.Sheet.open.Goals as goal
 
@@ -13,7 +14,7 @@ invariant_of-result g c =
       early = omega arith;
       few = omega arith;
       kept = kept_fresh g.M.Out.Output.key m (g.met.M.Machine.sizes x) _ _
-          (c.is_ok-sound.ensures.value ∙ tests_agree (is_ok c.check.result) (sound_by m) _ c.check.ensures.accepts decides) c.blank.ensures;
+          (c.is_ok-sound.ensures.value ∙ same_from_decides _ _ c.check.ensures.accepts decides) c.blank.ensures;
     }
 
 pub returns-clause-sound : goal.returns-clause-sound

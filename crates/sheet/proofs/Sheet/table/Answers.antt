@@ -11,12 +11,11 @@ use Rattle.sheet.specs.Stage.{Stage, if_ok}
 use Rattle.sheet.specs.Standing.{stage_of}
 use Rattle.sheet.specs.Tables.{cell_count, next_at, table_reply}
 use Rattle.sheet.proofs.Answering.{leaves, unsound, sound_so, heard, next_short, outputs_short, tabled}
-use Rattle.sheet.proofs.Keeping.{held, counted, known}
+use Rattle.sheet.proofs.Keeping.{blocks_kept, counted, known}
 use Rattle.sheet.proofs.Meaning.{table_means_at}
 use Rattle.std.proofs.lemmas.Bool.{cond-false}
 use Rattle.sheet.specs.Means.{TableMeans}
 use Rattle.sheet.specs.Steps.{Front}
-use Rattle.sheet.proofs.Copying.{total_is}
 use Rattle.sheet.proofs.Tabling.{nexts_are}
 use Rattle.std.proofs.lemmas.Result.{err_from_is_err_and}
 use Rattle.sheet.proofs.Sheet.table.Goals as goal
@@ -42,7 +41,7 @@ returns-then-next-total g c =
     let a = c.args.self.now in
     let t : Stage = stage_of a in
     let so = sound_so t tt tt c.in_ok-heard.ensures in
-    let total = total_is a.parts (block_count t.machine a.rounds) c.inputs.result t.machine.inputs (counted a so) c.inputs.ensures in
+    let total = (blocks_kept a (g.met.M.Machine.sizes a.machine) so c.inputs.result c.inputs.ensures).all in
     let answer : Err (refusal.ShortTable buffer.Next) ≡ table_reply t (length c.args.next.now) (length c.args.outputs.now) =
     next_short t c.if-not-self.false (length c.args.next.now) (length c.args.outputs.now) (omega (arith, total)) ∙ heard t _ so in
     record { answer = answer; next = leaves _ _ _ _ answer; outputs = refl; means = tt }
@@ -52,7 +51,7 @@ returns-then-outputs-total g c =
     let a = c.args.self.now in
     let t : Stage = stage_of a in
     let so = sound_so t tt tt c.in_ok-heard.ensures in
-    let total = total_is a.parts (block_count t.machine a.rounds) c.inputs.result t.machine.inputs (counted a so) c.inputs.ensures in
+    let total = (blocks_kept a (g.met.M.Machine.sizes a.machine) so c.inputs.result c.inputs.ensures).all in
     let answer : Err (refusal.ShortTable buffer.Outputs) ≡ table_reply t (length c.args.next.now) (length c.args.outputs.now) =
     outputs_short t c.if-not-self.false (length c.args.next.now) (length c.args.outputs.now) (omega (arith, total)) (omega (arith, total)) ∙ heard t _ so in
     record { answer = answer; next = leaves _ _ _ _ answer; outputs = refl; means = tt }
@@ -61,7 +60,9 @@ pub fill-requires : goal.fill-requires
 fill-requires g c =
     let a = c.args.self.now in
     let m = g.M.Machine.means a.machine in
+    let so = sound_so (stage_of a) tt tt c.in_ok-heard.ensures in
     record {
+      blocks = (a.rounds, blocks_kept a (g.met.M.Machine.sizes a.machine) so c.inputs.result c.inputs.ensures);
       few = subst (λ (x : ℕ). a.parts * x ≤ 128 * m.inputs) (sym c.inputs.ensures) (mul-le-mul_right m.inputs a.few);
       room = (c.if-next-total.false, c.if-outputs-total.false);
     }
@@ -84,10 +85,11 @@ returns g c =
     let t : Stage = stage_of a in
     let N : Mealy = t.machine in
     let so = sound_so t tt tt c.in_ok-heard.ensures in
-    let total = total_is a.parts (block_count N a.rounds) c.inputs.result N.inputs (counted a so) c.inputs.ensures in
+    let blocks = blocks_kept a sizes so c.inputs.result c.inputs.ensures in
+    let total = blocks.all in
     let class : get_or (get_or a.rows a.rounds []) c.start-start.result 0 ≡ block N a.rounds m.start =
     ap (λ (x : ℕ). get_or (get_or a.rows a.rounds []) x 0) c.start-start.ensures
-    ∙ held a sizes a.rounds (omega arith) m.start (sound_fits m sizes so).starts in
+    ∙ blocks.held m.start (sound_fits m sizes so).starts in
     let made : Table = record { classes = a.parts; start = get_or (get_or a.rows a.rounds []) c.start-start.result 0 } in
     let answer : Ok made ≡ table_reply t (length next) (length outs) =
     ap (λ (x : ℕ). Ok (record { classes = x; start = made.start })) (counted a so)
@@ -95,7 +97,7 @@ returns g c =
     ∙ tabled t c.if-not-self.false (length next) (length outs) (omega (arith, total)) (omega (arith, total)) ∙ heard t _ so in
     let front : Front key m a.rounds (cell_count t) next outs c.fill.new.next c.fill.new.outputs =
     subst (λ (x : ℕ). Front key m a.rounds x next outs c.fill.new.next c.fill.new.outputs) total
-    (c.fill.ensures a.rounds so (held a sizes a.rounds (omega arith)) total) in
+    (c.fill.ensures a.rounds blocks) in
     let wrote : c.fill.new.next ≡ map (next_at N a.rounds) (range_with_len 0 (cell_count t)) ++ drop (cell_count t) next =
     nexts_are N a.rounds (cell_count t) next c.fill.new.next (omega (arith, total, front.next_size)) front.nexts front.next_rest in
     record {

@@ -7,8 +7,8 @@ use Rattle.sheet.specs.declared.answers.Refusal.TheVariants as refusal
 use Rattle.sheet.specs.Replies.{word_at, word_reply, word_after}
 use Rattle.sheet.specs.Stage.{Stage, if_ok}
 use Rattle.sheet.specs.Standing.{stage_of}
-use Rattle.sheet.proofs.Answering.{leaves, no_states, states_so, heard, states, some_so, none_so, taken_is, not_apart_at, short_at, word_at_lem}
-use Rattle.sheet.proofs.Keeping.{held, known, parted_apart}
+use Rattle.sheet.proofs.Answering.{leaves, no_states, states_so, through, some_so, none_so, taken_is, not_apart_at, short_at, word_at_lem}
+use Rattle.sheet.proofs.Keeping.{known, parted_apart}
 use Rattle.sheet.proofs.Meaning.{word_means}
 use Rattle.std.proofs.lemmas.Result.{err_from_is_err_and}
 use Rattle.sheet.proofs.Sheet.word.Goals as goal
@@ -33,7 +33,7 @@ returns-in_err-j g c =
     let none = none_so _ _ _ c.in_err-j.ensures.value in
     let answer : Err c.in_err-j.field-0.0 ≡ word_reply t c.args.s c.args.t (length out) =
     ap (λ (x : Refusal). Err x) none.1 ∙ not_apart_at a.rounds (length out) (parted t.machine a.rounds c.args.s c.args.t) (none.0 ∙ is.3)
-    ∙ states t _ c.args.s c.args.t is.1 is.2 ∙ heard t _ is.0 in
+    ∙ through t c.args.s c.args.t _ _ c.in_ok-found.ensures _ in
     let buffer : out ≡ word_after t c.args.s c.args.t out = leaves _ _ _ _ answer in
     let p = err_from_is_err_and c.from_residual-in_err-j.result c.from_residual-in_err-j.ensures.1 in
     rw (p.1, p.2) (record { answer = answer; buffer = buffer; means = word_means t (known a (g.met.M.Machine.sizes a.machine) (g.met.M.Machine.closed a.machine)) c.args.s c.args.t out _ _ answer buffer })
@@ -47,7 +47,7 @@ returns-then-out-j g c =
     let at = taken_is a.rounds (parted t.machine a.rounds c.args.s c.args.t) c.in_ok-j.j (some_so _ _ _ c.in_ok-j.ensures.value ∙ is.3) in
     let answer : Err (refusal.Short c.in_ok-j.j) ≡ word_reply t c.args.s c.args.t (length out) =
     short_at a.rounds (length out) c.in_ok-j.j (omega (arith, at.0, at.1)) c.if-out-j.true ∙ ap (word_at a.rounds (length out)) at.0
-    ∙ states t _ c.args.s c.args.t is.1 is.2 ∙ heard t _ is.0 in
+    ∙ through t c.args.s c.args.t _ _ c.in_ok-found.ensures _ in
     let buffer : out ≡ word_after t c.args.s c.args.t out = leaves _ _ _ _ answer in
     record { answer = answer; buffer = buffer; means = word_means t (known a (g.met.M.Machine.sizes a.machine) (g.met.M.Machine.closed a.machine)) c.args.s c.args.t out _ _ answer buffer }
 
@@ -57,7 +57,11 @@ spell-requires g c =
     let t : Stage = stage_of a in
     let is = states_so t _ _ c.args.s c.args.t c.in_ok-found.ensures in
     let at = taken_is a.rounds (parted t.machine a.rounds c.args.s c.args.t) c.in_ok-j.j (some_so _ _ _ c.in_ok-j.ensures.value ∙ is.3) in
-    record { room = (omega (arith, at.0, at.1, a.early, a.few), c.if-out-j.false) }
+    let early : c.in_ok-j.j ≤ a.rounds = omega (arith, at.0, at.1) in
+    record {
+      room = c.if-out-j.false;
+      apart = record { sound = is.0; left = is.1; right = is.2; taken = early; apart = parted_apart t.machine a.rounds c.args.s c.args.t c.in_ok-j.j at.0 early };
+    }
 
 pub returns : goal.returns
 returns g c =
@@ -74,15 +78,9 @@ returns g c =
     let early : j ≤ a.rounds = omega (arith, at.0, at.1) in
     let answer : Ok j ≡ word_reply t s u (length out) =
     word_at_lem a.rounds (length out) j early c.if-out-j.false ∙ ap (word_at a.rounds (length out)) at.0
-    ∙ states t _ s u is.1 is.2 ∙ heard t _ is.0 in
+    ∙ through t s u _ _ c.in_ok-found.ensures _ in
     let wrote : c.spell.new.out ≡ word_of N a.rounds s u ++ drop (length (word_of N a.rounds s u)) out =
-    c.spell.ensures (record {
-      sound = is.0;
-      left = is.1;
-      right = is.2;
-      held = λ i h. held a sizes i (omega arith);
-      apart = parted_apart N a.rounds s u j at.0 early;
-    })
+    c.spell.ensures
     ∙ ap (λ (x : ℕ). first_word N x s u ++ drop (length (first_word N x s u)) out) at.0 in
     let buffer : c.spell.new.out ≡ word_after t s u out =
     wrote ∙ ap (λ (x : Result ℕ Refusal). if_ok x (word_of N a.rounds s u ++ drop (length (word_of N a.rounds s u)) out) out) answer in
