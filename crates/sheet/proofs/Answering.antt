@@ -1,8 +1,8 @@
 -- Which way a reply goes.
-use Rattle.std.proofs.Common.{◌≡◌, ℕ, suc, ◌<◌, ◌≤◌, Bool, true, false, cond, ◌&&◌, ltb, leb, Some, None, Ok, Err, Option, Result, sym, ap, ◌∙◌, arith}
+use Rattle.std.proofs.Common.{◌≡◌, ℕ, suc, ◌<◌, ◌≤◌, Bool, true, false, cond, ◌&&◌, ltb, leb, Some, None, Ok, Err, Option, IfSome, Result, refl, sym, ap, ◌∙◌, arith}
 use Rattle.std.specs.Option.{ok_or}
-use Rattle.std.proofs.lemmas.Bool.{cond-true, cond-false, and_parts, and_from, lt-ltb, le-ltb, leb-true, le-leb, ltb-true, eq-eqb, ne_eqb}
-use Rattle.mealy.specs.Partitions.{block_count, Settled}
+use Rattle.std.proofs.lemmas.Bool.{cond-true, cond-false, cond_both, and_parts, and_from, lt-ltb, le-ltb, leb-true, le-leb, ltb-true, eq-eqb, ne_eqb}
+use Rattle.mealy.specs.Partitions.{block_count, parted, Settled}
 use Rattle.mealy.proofs.Below.{by_test}
 use Rattle.mealy.proofs.Rounds.{settled_from}
 use Rattle.mealy.proofs.Settled.{settled_count}
@@ -10,7 +10,7 @@ use Rattle.sheet.specs.declared.answers.Pair.TheVariants as pairs
 use Rattle.sheet.specs.declared.answers.Refusal.{Refusal}
 use Rattle.sheet.specs.declared.answers.Refusal.TheVariants as refusal
 use Rattle.sheet.specs.declared.answers.Round.TheVariants as round
-use Rattle.sheet.specs.Replies.{when_sound, when_open, when_states, when_room, settles_in, round_reply, if_taken, pair_at, word_at}
+use Rattle.sheet.specs.Replies.{when_sound, when_open, when_states, when_room, settles_in, round_reply, if_taken, parted_in, told, pair_at, word_at}
 use Rattle.sheet.specs.declared.answers.TableBuffer.TheVariants as buffer
 use Rattle.sheet.specs.Stage.{Stage, if_ok}
 use Rattle.sheet.specs.Tables.{cell_count, table_of, table_when}
@@ -139,31 +139,30 @@ pub taken_is : (r j x : ℕ) → Some x ≡ if_taken r j → (x ≡ j) × (j ≤
 taken_is r j x h =
     by_test (leb j r) (λ e. (cc (h, cond-true (leb j r) (Some j) None e), leb-true j r e)) (λ e. absurd (cc (h, cond-false (leb j r) (Some j) None e)))
 
-apart_by : (b : Bool) (done : Bool) (j x : ℕ) → Some x ≡ cond b (Some j) None → pairs.Apart x ≡ cond b (pairs.Apart j) (cond done pairs.Equivalent pairs.Together)
-apart_by true done j x h = cc h
-apart_by false done j x h = absurd (cc h)
+pub few_taken : (r j n : ℕ) → r < n → IfSome (if_taken r j) (λ x. x < n)
+few_taken r j n l = cond_both (leb j r) (Some j) None (λ x. IfSome x (λ y. y < n)) (λ e. omega (arith, leb-true j r e)) (λ _. tt)
 
-none_by : {A : Type 0} (b : Bool) (j : ℕ) (x y : A) → None ≡ cond b (Some j) None → y ≡ cond b x y
+told_by : (b done : Bool) (j : ℕ) → told (cond b (Some j) None) done ≡ cond b (pairs.Apart j) (cond done pairs.Equivalent pairs.Together)
+told_by true done j = refl
+told_by false done j = refl
+
+pub told_is : (t : Stage) (s u : ℕ) → told (parted_in t s u) t.settled ≡ pair_at t.rounds t.settled (parted t.machine t.rounds s u)
+told_is t s u = let j = parted t.machine t.rounds s u in told_by (leb j t.rounds) t.settled j
+
+-- A word of two states that have parted needs room, and one of two that have not is refused.
+word_by : (b : Bool) (size j x : ℕ) → Some x ≡ cond b (Some j) None → when_room size x (Ok x) ≡ cond b (when_room size j (Ok j)) (Err refusal.NotApart)
+word_by true size j x h = cc h
+word_by false size j x h = absurd (cc h)
+
+none_by : (b : Bool) (j : ℕ) (x y : Result ℕ Refusal) → None ≡ cond b (Some j) None → y ≡ cond b x y
 none_by true j x y h = absurd (cc h)
 none_by false j x y h = cc
 
-pub apart_at_lem : (r j x : ℕ) (done : Bool) → Some x ≡ if_taken r j → pairs.Apart x ≡ pair_at r done j
-apart_at_lem r j x done = apart_by (leb j r) done j x
-
-pub equivalent_at : (r j : ℕ) (done : Bool) → None ≡ if_taken r j → done ≡ true → pairs.Equivalent ≡ pair_at r done j
-equivalent_at r j done h e = sym (cond-true _ _ _ e) ∙ none_by (leb j r) j _ _ h
-
-pub together_at : (r j : ℕ) (done : Bool) → None ≡ if_taken r j → done ≡ false → pairs.Together ≡ pair_at r done j
-together_at r j done h e = sym (cond-false _ _ _ e) ∙ none_by (leb j r) j _ _ h
+pub word_taken : (r size j x : ℕ) → Some x ≡ if_taken r j → when_room size x (Ok x) ≡ word_at r size j
+word_taken r size j = word_by (leb j r) size j
 
 pub not_apart_at : (r size j : ℕ) → None ≡ if_taken r j → Err refusal.NotApart ≡ word_at r size j
 not_apart_at r size j = none_by (leb j r) j _ _
-
-pub short_at : (r size j : ℕ) → j ≤ r → size < j → Err (refusal.Short j) ≡ word_at r size j
-short_at r size j l b = short size j (Ok j) b ∙ sym (cond-true _ _ _ (le-leb j r l))
-
-pub word_at_lem : (r size j : ℕ) → j ≤ r → j ≤ size → Ok j ≡ word_at r size j
-word_at_lem r size j l b = room size j (Ok j) b ∙ sym (cond-true _ _ _ (le-leb j r l))
 
 -- A table of a settled sheet: the first buffer is too short, the second is, or it is handed out.
 module _ (t : Stage) (done : t.settled ≡ true) (nexts outs : ℕ) where

@@ -1,5 +1,5 @@
 -- What the replies say of words.
-use Rattle.std.proofs.Common.{◌≡◌, ℕ, suc, ◌+◌, ◌-◌, ◌<◌, ◌≤◌, Bool, true, not, ◌&&◌, ltb, leb, List, ◌++◌, map, length, get_or, take, drop, ℤ, Ok, Result, sym, refl, ap, ◌∙◌, subst, arith}
+use Rattle.std.proofs.Common.{◌≡◌, ℕ, suc, ◌+◌, ◌-◌, ◌<◌, ◌≤◌, Bool, true, not, ◌&&◌, ltb, leb, List, ◌++◌, map, length, get_or, take, drop, ℤ, Ok, Err, Result, sym, refl, ap, ◌∙◌, subst, arith}
 use Rattle.std.specs.List.{range_with_len}
 use Rattle.std.proofs.lemmas.List.{get_or_append_left, take_at}
 use Rattle.std.proofs.lemmas.List.FromFn.{get_or-map-range_with_len, length-map-range_with_len}
@@ -26,7 +26,7 @@ use Rattle.sheet.specs.Means.{NoneLonger, RoundMeans, SettleMeans, PairMeans, Ma
 use Rattle.sheet.specs.Replies.{settles_in, splits_in_all, round_reply, settle_reply, pair_at, pair_reply, map_reply, map_after, word_at, word_reply, word_after}
 use Rattle.sheet.specs.Stage.{Stage, stage_at, if_ok}
 use Rattle.sheet.specs.Tables.{cell_count, next_at, OutputsWritten}
-use Rattle.sheet.proofs.Answering.{heard, states}
+use Rattle.sheet.proofs.Answering.{heard, states, leaves}
 use Rattle.sheet.proofs.Keeping.{Known, splits_more}
 use Rattle.sheet.proofs.LastRound.{settles_test, test_settles, last_is}
 use Rattle.sheet.proofs.Tabling.{table_smallest, class_equivalent, next_read}
@@ -150,6 +150,13 @@ word_means t k s u before r after e f =
     word_means_at t k so s u (ltb-true s n parts.0) (ltb-true u n parts.1) before _ refl)
     (λ _. tt))
     (λ _. tt)))
+
+-- A word refused: nothing is written.
+pub word_refused : (t : Stage) → Known t → (s u : ℕ) (out : List ℕ) (e : Refusal) → Err e ≡ word_reply t s u (length out)
+    → record {answer : Err e ≡ word_reply t s u (length out); buffer : out ≡ word_after t s u out; means : WordMeans t s u (Err e) out}
+word_refused t k s u out e answer =
+    let buffer : out ≡ word_after t s u out = leaves _ _ _ _ answer in
+    record { answer = answer; buffer = buffer; means = word_means t k s u out _ _ answer buffer }
 
 -- The numbers written in front.
 module _ (t : Stage) (k : Known t) (so : t.sound ≡ true) (rest : List ℕ) where

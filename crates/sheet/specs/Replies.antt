@@ -61,6 +61,11 @@ parted_in t s u = if_taken t.rounds (parted t.machine t.rounds s u)
 abbrev pub pair_at : ℕ → Bool → ℕ → Pair
 pair_at r done j = cond (nat_le j r) (pairs.Apart j) (cond done pairs.Equivalent pairs.Together)
 
+-- the same by the round in which they part, if they have
+abbrev pub told : Option ℕ → Bool → Pair
+told (Some j) done = pairs.Apart j
+told None done = cond done pairs.Equivalent pairs.Together
+
 abbrev pub pair_reply : Stage → ℕ → ℕ → Result Pair Refusal
 pair_reply t s u =
     when_sound t (when_states t s u (Ok (pair_at t.rounds t.settled (parted t.machine t.rounds s u))))

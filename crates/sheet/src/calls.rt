@@ -1,10 +1,10 @@
 //! The calls of a sheet.
-ghost use Rattle.std.specs.Prelude.{◌≡◌, true, false, length, Ok, Decides};
+ghost use Rattle.std.specs.Prelude.{◌≡◌, ◌<◌, true, false, length, IfSome, Ok, Decides};
 ghost use Rattle.machine.specs.Meaning.{Sound};
 ghost use Rattle.machine.specs.Theory.{sound_by};
 ghost use Rattle.sheet.specs.Stage.{stage_at, stage_after, stage_settled, Unchanged};
 ghost use Rattle.sheet.specs.Standing.{stage_of};
-ghost use Rattle.sheet.specs.Replies.{when_sound, when_open, when_states, round_reply, settle_reply, parted_in, pair_reply, map_reply, map_after, word_reply, word_after};
+ghost use Rattle.sheet.specs.Replies.{when_sound, when_open, when_states, round_reply, settle_reply, parted_in, told, pair_reply, map_reply, map_after, word_reply, word_after};
 ghost use Rattle.sheet.specs.Tables.{table_reply, next_after, OutputsAfter};
 ghost use Rattle.sheet.specs.Means.{RoundMeans, SettleMeans, PairMeans, MapMeans, WordMeans, TableMeans};
 
@@ -12,6 +12,18 @@ use crate::steps::{blank, copy_front, fill, first_apart};
 use crate::{Pair, Refusal, Round, Settling, Sheet, Table, TableBuffer};
 use machine::{Machine, Output, check};
 use rounds::Numbering;
+
+/// What is told of two states by the round in which they part, if they have, and by whether the sheet is settled.
+fn tell(found: Option<usize>, settled: bool) -> Pair
+    requires { IfSome found (λ j. j < 128) }
+    ensures { result ≡ told found settled }
+{
+    match found {
+        Some(j) => Pair::Apart(j as u16),
+        None if settled => Pair::Equivalent,
+        None => Pair::Together,
+    }
+}
 
 impl<M: Machine> Sheet<M> {
     /// A sheet of one block, whatever the machine.
@@ -129,11 +141,8 @@ impl<M: Machine> Sheet<M> {
         ensures answer { result ≡ pair_reply (stage_of self.now) s t }
         ensures means { PairMeans (stage_of self.now) s t result }
     {
-        Ok(match self.parted(s, t)? {
-            Some(j) => Pair::Apart(j as u16),
-            None if self.settled => Pair::Equivalent,
-            None => Pair::Together,
-        })
+        let found = self.parted(s, t)?;
+        Ok(tell(found, self.settled))
     }
 
     /// Writes the block number of each state.

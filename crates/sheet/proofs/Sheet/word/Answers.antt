@@ -7,49 +7,40 @@ use Rattle.sheet.specs.declared.answers.Refusal.TheVariants as refusal
 use Rattle.sheet.specs.Replies.{word_at, word_reply, word_after}
 use Rattle.sheet.specs.Stage.{Stage, if_ok}
 use Rattle.sheet.specs.Standing.{stage_of}
-use Rattle.sheet.proofs.Answering.{leaves, no_states, states_so, through, some_so, none_so, taken_is, not_apart_at, short_at, word_at_lem}
+use Rattle.sheet.proofs.Answering.{no_states, states_so, through, short, room, some_so, none_so, taken_is, not_apart_at, word_taken}
 use Rattle.sheet.proofs.Keeping.{known, parted_apart}
-use Rattle.sheet.proofs.Meaning.{word_means}
+use Rattle.sheet.proofs.Meaning.{word_means, word_refused}
 use Rattle.std.proofs.lemmas.Result.{err_from_is_err_and}
 use Rattle.sheet.proofs.Sheet.word.Goals as goal
 
 pub returns-in_err-found : goal.returns-in_err-found
 returns-in_err-found g c =
     let a = c.args.self.now in
-    let t : Stage = stage_of a in
-    let out : List ℕ = c.args.out.now in
-    let answer : Err c.in_err-found.field-0.0 ≡ word_reply t c.args.s c.args.t (length out) =
-    no_states t _ _ _ c.args.s c.args.t c.in_err-found.ensures in
-    let buffer : out ≡ word_after t c.args.s c.args.t out = leaves _ _ _ _ answer in
     let p = err_from_is_err_and c.from_residual.result c.from_residual.ensures.1 in
-    rw (p.1, p.2) (record { answer = answer; buffer = buffer; means = word_means t (known a (g.met.M.Machine.sizes a.machine) (g.met.M.Machine.closed a.machine)) c.args.s c.args.t out _ _ answer buffer })
+    rw (p.1, p.2) (word_refused (stage_of a) (known a (g.met.M.Machine.sizes a.machine) (g.met.M.Machine.closed a.machine)) c.args.s c.args.t c.args.out.now _
+    (no_states (stage_of a) _ _ _ c.args.s c.args.t c.in_err-found.ensures))
 
 pub returns-in_err-j : goal.returns-in_err-j
 returns-in_err-j g c =
     let a = c.args.self.now in
     let t : Stage = stage_of a in
-    let out : List ℕ = c.args.out.now in
     let is = states_so t _ _ c.args.s c.args.t c.in_ok-found.ensures in
     let none = none_so _ _ _ c.in_err-j.ensures.value in
-    let answer : Err c.in_err-j.field-0.0 ≡ word_reply t c.args.s c.args.t (length out) =
-    ap (λ (x : Refusal). Err x) none.1 ∙ not_apart_at a.rounds (length out) (parted t.machine a.rounds c.args.s c.args.t) (none.0 ∙ is.3)
-    ∙ through t c.args.s c.args.t _ _ c.in_ok-found.ensures _ in
-    let buffer : out ≡ word_after t c.args.s c.args.t out = leaves _ _ _ _ answer in
     let p = err_from_is_err_and c.from_residual-in_err-j.result c.from_residual-in_err-j.ensures.1 in
-    rw (p.1, p.2) (record { answer = answer; buffer = buffer; means = word_means t (known a (g.met.M.Machine.sizes a.machine) (g.met.M.Machine.closed a.machine)) c.args.s c.args.t out _ _ answer buffer })
+    rw (p.1, p.2) (word_refused t (known a (g.met.M.Machine.sizes a.machine) (g.met.M.Machine.closed a.machine)) c.args.s c.args.t c.args.out.now _
+    (ap Err none.1 ∙ not_apart_at a.rounds _ (parted t.machine a.rounds c.args.s c.args.t) (none.0 ∙ is.3)
+    ∙ through t c.args.s c.args.t _ _ c.in_ok-found.ensures _))
 
 pub returns-then-out-j : goal.returns-then-out-j
 returns-then-out-j g c =
     let a = c.args.self.now in
     let t : Stage = stage_of a in
-    let out : List ℕ = c.args.out.now in
     let is = states_so t _ _ c.args.s c.args.t c.in_ok-found.ensures in
-    let at = taken_is a.rounds (parted t.machine a.rounds c.args.s c.args.t) c.in_ok-j.j (some_so _ _ _ c.in_ok-j.ensures.value ∙ is.3) in
-    let answer : Err (refusal.Short c.in_ok-j.j) ≡ word_reply t c.args.s c.args.t (length out) =
-    short_at a.rounds (length out) c.in_ok-j.j (omega (arith, at.0, at.1)) c.if-out-j.true ∙ ap (word_at a.rounds (length out)) at.0
-    ∙ through t c.args.s c.args.t _ _ c.in_ok-found.ensures _ in
-    let buffer : out ≡ word_after t c.args.s c.args.t out = leaves _ _ _ _ answer in
-    record { answer = answer; buffer = buffer; means = word_means t (known a (g.met.M.Machine.sizes a.machine) (g.met.M.Machine.closed a.machine)) c.args.s c.args.t out _ _ answer buffer }
+    let size : ℕ = length c.args.out.now in
+    word_refused t (known a (g.met.M.Machine.sizes a.machine) (g.met.M.Machine.closed a.machine)) c.args.s c.args.t c.args.out.now _
+    (short size c.in_ok-j.j (Ok c.in_ok-j.j) c.if-out-j.true
+    ∙ word_taken a.rounds size (parted t.machine a.rounds c.args.s c.args.t) c.in_ok-j.j (some_so _ _ _ c.in_ok-j.ensures.value ∙ is.3)
+    ∙ through t c.args.s c.args.t _ _ c.in_ok-found.ensures _)
 
 pub spell-requires : goal.spell-requires
 spell-requires g c =
@@ -75,9 +66,9 @@ returns g c =
     let j : ℕ = c.in_ok-j.j in
     let is = states_so t _ _ s u c.in_ok-found.ensures in
     let at = taken_is a.rounds (parted N a.rounds s u) j (some_so _ _ _ c.in_ok-j.ensures.value ∙ is.3) in
-    let early : j ≤ a.rounds = omega (arith, at.0, at.1) in
     let answer : Ok j ≡ word_reply t s u (length out) =
-    word_at_lem a.rounds (length out) j early c.if-out-j.false ∙ ap (word_at a.rounds (length out)) at.0
+    room (length out) j (Ok j) c.if-out-j.false
+    ∙ word_taken a.rounds (length out) (parted N a.rounds s u) j (some_so _ _ _ c.in_ok-j.ensures.value ∙ is.3)
     ∙ through t s u _ _ c.in_ok-found.ensures _ in
     let wrote : c.spell.new.out ≡ word_of N a.rounds s u ++ drop (length (word_of N a.rounds s u)) out =
     c.spell.ensures
