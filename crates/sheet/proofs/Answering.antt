@@ -15,63 +15,56 @@ use Rattle.sheet.specs.declared.answers.TableBuffer.TheVariants as buffer
 use Rattle.sheet.specs.Stage.{Stage, if_ok}
 use Rattle.sheet.specs.Tables.{cell_count, table_of, table_when}
 
--- What is refused, or let through, of one answer is of every other.
-module _ {A B : Type 0} (y : A) (x : Result B Refusal) (r q : Refusal) where
-  shut_first : (b : Bool) (e : Refusal) → Err e ≡ cond b (Ok y) (Err r) → Err e ≡ cond b x (Err r)
-  shut_first true e h = absurd (cc h)
-  shut_first false e h = cc h
+-- What a test refuses of one answer it refuses of every other,
+module _ {A B : Type 0} (x : Result A Refusal) (y : Result B Refusal) (e r : Refusal) (same : Err e ≡ x → Err e ≡ y) where
+  shut_if : (b : Bool) → Err e ≡ cond b (Err r) x → Err e ≡ cond b (Err r) y
+  shut_if true h = cc h
+  shut_if false h = same h
 
-  shut_second : (b d : Bool) (e : Refusal) → Err e ≡ cond b (cond d (Ok y) (Err q)) (Err r) → Err e ≡ cond b (cond d x (Err q)) (Err r)
-  shut_second true true e h = absurd (cc h)
-  shut_second true false e h = cc h
-  shut_second false d e h = cc h
+  shut_unless : (b : Bool) → Err e ≡ cond b x (Err r) → Err e ≡ cond b y (Err r)
+  shut_unless true h = same h
+  shut_unless false h = cc h
 
-  shut_third : (b d : Bool) (e : Refusal) → Err e ≡ cond b (cond d (Err q) (Ok y)) (Err r) → Err e ≡ cond b (cond d (Err q) x) (Err r)
-  shut_third true true e h = cc h
-  shut_third true false e h = absurd (cc h)
-  shut_third false d e h = cc h
+-- and what it lets through has passed it.
+module _ {A : Type 0} (x : Result A Refusal) (z : A) (r : Refusal) where
+  pass_if : (b : Bool) → Ok z ≡ cond b (Err r) x → (b ≡ false) × (Ok z ≡ x)
+  pass_if true h = absurd (cc h)
+  pass_if false h = (refl, h)
 
-module _ {A : Type 0} (y z : A) (r q : Refusal) where
-  pass_first : (b : Bool) → Ok z ≡ cond b (Ok y) (Err r) → b ≡ true
-  pass_first true h = cc
-  pass_first false h = absurd (cc h)
-
-  pass_second : (b d : Bool) → Ok z ≡ cond b (cond d (Ok y) (Err q)) (Err r) → (b ≡ true) × (d ≡ true) × (z ≡ y)
-  pass_second true true h = (cc, cc, cc h)
-  pass_second true false h = absurd (cc h)
-  pass_second false d h = absurd (cc h)
-
-  pass_third : (b d : Bool) → Ok z ≡ cond b (cond d (Err q) (Ok y)) (Err r) → (b ≡ true) × (d ≡ false)
-  pass_third true true h = absurd (cc h)
-  pass_third true false h = (cc, cc)
-  pass_third false d h = absurd (cc h)
+  pass_unless : (b : Bool) → Ok z ≡ cond b x (Err r) → (b ≡ true) × (Ok z ≡ x)
+  pass_unless true h = (refl, h)
+  pass_unless false h = absurd (cc h)
 
 module _ {A B : Type 0} (t : Stage) (y : A) (x : Result B Refusal) (e : Refusal) where
+  answered : Err e ≡ Ok y → Err e ≡ x
+  answered h = absurd (cc h)
+
   -- A call is refused as any on a sheet, as one that takes rounds, or as one on two states,
   pub unsound : Err e ≡ when_sound t (Ok y) → Err e ≡ when_sound t x
-  unsound = shut_first y x refusal.Unsound refusal.Unsound t.sound e
+  unsound = shut_unless _ _ e _ answered t.sound
 
   pub closed : Err e ≡ when_sound t (when_open t (Ok y)) → Err e ≡ when_sound t (when_open t x)
-  closed = shut_third y x refusal.Unsound refusal.AlreadySettled t.sound t.settled e
+  closed = shut_unless _ _ e _ (shut_if _ _ e _ answered t.settled) t.sound
 
   pub no_states : (s u : ℕ) → Err e ≡ when_sound t (when_states t s u (Ok y)) → Err e ≡ when_sound t (when_states t s u x)
-  no_states s u = shut_second y x refusal.Unsound refusal.NoSuchState t.sound (ltb s t.machine.states && ltb u t.machine.states) e
+  no_states s u = shut_unless _ _ e _ (shut_unless _ _ e _ answered (ltb s t.machine.states && ltb u t.machine.states)) t.sound
 
 module _ {A : Type 0} (t : Stage) (y z : A) where
   -- and none is let through without cause.
   pub sound_so : Ok z ≡ when_sound t (Ok y) → t.sound ≡ true
-  sound_so = pass_first y z refusal.Unsound refusal.Unsound t.sound
+  sound_so h = (pass_unless (Ok y) z _ t.sound h).0
 
   pub open_so : Ok z ≡ when_sound t (when_open t (Ok y)) → (t.sound ≡ true) × (t.settled ≡ false)
-  open_so = pass_third y z refusal.Unsound refusal.AlreadySettled t.sound t.settled
+  open_so h = let is = pass_unless _ z _ t.sound h in (is.0, (pass_if (Ok y) z _ t.settled is.1).0)
 
   pub states_so : (s u : ℕ) → Ok z ≡ when_sound t (when_states t s u (Ok y))
       → (t.sound ≡ true) × (s < t.machine.states) × (u < t.machine.states) × (z ≡ y)
   states_so s u h =
       let n : ℕ = t.machine.states in
-      let is = pass_second y z refusal.Unsound refusal.NoSuchState t.sound (ltb s n && ltb u n) h in
-      let both = and_parts (ltb s n) (ltb u n) is.1 in
-      (is.0, ltb-true s n both.0, ltb-true u n both.1, is.2)
+      let is = pass_unless _ z _ t.sound h in
+      let both = pass_unless (Ok y) z _ (ltb s n && ltb u n) is.1 in
+      let each = and_parts (ltb s n) (ltb u n) both.0 in
+      (is.0, ltb-true s n each.0, ltb-true u n each.1, cc both.1)
 
 module _ {A : Type 0} (t : Stage) (x : Result A Refusal) where
   -- A sound machine is heard.

@@ -7,14 +7,6 @@ use Rattle.mealy.specs.Below.{lowest}
 use Rattle.rounds.specs.Joining.{some_below}
 use Rattle.rounds.proofs.Firsts.{lowest_is_found}
 
--- One more place of one list over another.
-pub front_more : {X : Type 0} (xs ys : List X) (i : ℕ) (d : X) → i < length xs → i < length ys
-    → set (take i xs ++ drop i ys) i (get_or xs i d) ≡ take (i + 1) xs ++ drop (i + 1) ys
-front_more {X} xs ys i d l b =
-    ap (λ (z : List X). set (take i xs ++ z) i (get_or xs i d)) (drop_more ys i d b)
-    ∙ set_at (take i xs) (get_or ys i d) (drop (i + 1) ys) (get_or xs i d) i (length-take-le i xs (omega arith))
-    ∙ sym (ap (λ (z : List X). z ++ drop (i + 1) ys) (take_more xs i d l) ∙ append_assoc (take i xs) (get_or xs i d ∷ []) (drop (i + 1) ys))
-
 -- What stands behind one more place written.
 pub rest_more : {X : Type 0} (xs ys : List X) (i : ℕ) (v : X) → drop i xs ≡ drop i ys → drop (i + 1) (set xs i v) ≡ drop (i + 1) ys
 rest_more {X} xs ys i v e =
@@ -37,10 +29,8 @@ pub row_below : (x k b : ℕ) → 0 < k → x < b * k → x / k < b
 row_below x k b h l = (div-lt_iff_lt-mul {k = k} {x = x} {y = b} h).1 l
 
 pub some_width : (x b k : ℕ) → x < b * k → 0 < k
-some_width x b k h =
-    ⊎_elim (λ (q : 0 < k). q)
-    (λ (q : k ≤ 0). let z : k ≡ 0 = omega arith in let e : b * k ≡ 0 = ap (λ (y : ℕ). b * y) z ∙ mul-zero b in absurd (omega arith))
-    (cases_lt 0 k)
+some_width x b zero h = absurd (omega (arith, mul-zero b))
+some_width x b (suc k) h = omega arith
 
 -- What was found in the front of a row is the lowest place.
 pub place_is_found : (row : List ℕ) (n c : ℕ) (found : Option ℕ) → n ≤ length row

@@ -7,6 +7,7 @@ use Rattle.std.proofs.lemmas.Bool.{both_ways, cond_both, cond-true, and_parts, l
 use Rattle.machine.specs.Meaning as meaning
 use Rattle.machine.specs.Meaning.{Meaning}
 use Rattle.machine.specs.Theory.{sound_by}
+use Rattle.machine.specs.declared.Cell.{Cell}
 use Rattle.mealy.specs.Mealy.{Mealy}
 use Rattle.mealy.specs.FirstWord.{word_of, Shortest}
 use Rattle.mealy.specs.Partitions.{share, block, blocks, block_count, parted, Settled}
@@ -25,7 +26,7 @@ use Rattle.sheet.specs.declared.answers.Table.{Table}
 use Rattle.sheet.specs.Means.{NoneLonger, RoundMeans, SettleMeans, PairMeans, MapMeans, WordMeans, TableMeans}
 use Rattle.sheet.specs.Replies.{settles_in, splits_in_all, round_reply, settle_reply, pair_at, pair_reply, map_reply, map_after, word_at, word_reply, word_after}
 use Rattle.sheet.specs.Stage.{Stage, stage_at, if_ok}
-use Rattle.sheet.specs.Tables.{cell_count, next_at, OutputsWritten}
+use Rattle.sheet.specs.Tables.{cell_count, table_reply, next_at, next_after, OutputsAfter, OutputsWritten}
 use Rattle.sheet.proofs.Answering.{heard, states, leaves}
 use Rattle.sheet.proofs.Keeping.{Known, splits_more}
 use Rattle.sheet.proofs.LastRound.{settles_test, test_settles, last_is}
@@ -198,6 +199,16 @@ map_means t k before r after e f =
     (cond_both t.sound _ _ P
     (λ so. cond_both (ltb (length before) n) _ _ P (λ _. tt) (λ _. map_means_at t k so (drop n before)))
     (λ _. tt)))
+
+-- A map or a table refused: nothing is written.
+pub map_refused : (t : Stage) (out : List ℕ) (e : Refusal) → Err e ≡ map_reply t (length out)
+    → record {answer : Err e ≡ map_reply t (length out); buffer : out ≡ map_after t out; means : MapMeans {U = Unit {0}} t (Err e) out}
+map_refused t out e answer = record { answer = answer; buffer = leaves _ _ _ _ answer; means = tt }
+
+pub table_refused : {O F : Type 0} (key : O → List ℤ) (entry : ℕ → ℕ → Result (Cell O) F) (t : Stage) (xs : List ℕ) (ys : List O) (e : Refusal)
+    → Err e ≡ table_reply t (length xs) (length ys)
+    → record {answer : Err e ≡ table_reply t (length xs) (length ys); next : xs ≡ next_after t (length ys) xs; outputs : OutputsAfter entry t (Err e) ys ys; means : TableMeans key t (Err e) xs ys}
+table_refused key entry t xs ys e answer = record { answer = answer; next = leaves _ _ _ _ answer; outputs = refl; means = tt }
 
 -- A table that was written.
 pub table_means_at : {O F : Type 0} (key : O → List ℤ) (m : Meaning O F) → meaning.Closed m → (r : ℕ) (done : Bool)

@@ -78,8 +78,7 @@ impl<M: Machine> Sheet<M> {
 
     /// Takes the next partition where it has more blocks than the last one, and settles the sheet where it has not.
     fn advance(&mut self) -> Round
-        requires sound { sound_by (M.Machine.means self.old.machine) ≡ true }
-        requires unsettled { self.old.settled ≡ false }
+        requires { (sound_by (M.Machine.means self.old.machine) ≡ true) × (self.old.settled ≡ false) }
         ensures same { self.new.machine ≡ self.old.machine }
         ensures stage { stage_of self.new ≡ stage_after (Ok result) (stage_of self.old) }
         ensures answer { Ok result ≡ round_reply (stage_of self.old) }

@@ -7,9 +7,9 @@ use Rattle.sheet.specs.declared.answers.Refusal.TheVariants as refusal
 use Rattle.sheet.specs.Replies.{map_reply, map_after}
 use Rattle.sheet.specs.Stage.{Stage, if_ok}
 use Rattle.sheet.specs.Standing.{stage_of}
-use Rattle.sheet.proofs.Answering.{leaves, unsound, sound_so, heard, short, room}
+use Rattle.sheet.proofs.Answering.{unsound, sound_so, heard, short, room}
 use Rattle.sheet.proofs.Keeping.{last_row, known}
-use Rattle.sheet.proofs.Meaning.{map_means}
+use Rattle.sheet.proofs.Meaning.{map_means, map_refused}
 use Rattle.sheet.proofs.Rows.{front_is}
 use Rattle.std.proofs.lemmas.Result.{err_from_is_err_and}
 use Rattle.sheet.proofs.Sheet.map.Goals as goal
@@ -17,19 +17,15 @@ use Rattle.sheet.proofs.Sheet.map.Goals as goal
 pub returns-in_err-heard : goal.returns-in_err-heard
 returns-in_err-heard g c =
     let t : Stage = stage_of c.args.self.now in
-    let out = c.args.out.now in
-    let answer : Err c.in_err-heard.field-0.0 ≡ map_reply t (length out) = unsound t tt _ _ c.in_err-heard.ensures in
     let p = err_from_is_err_and c.from_residual.result c.from_residual.ensures.1 in
-    rw (p.1, p.2) (record { answer = answer; buffer = leaves _ _ _ _ answer; means = tt })
+    rw (p.1, p.2) (map_refused t c.args.out.now _ (unsound t tt _ _ c.in_err-heard.ensures))
 
 pub returns-then-out-n : goal.returns-then-out-n
 returns-then-out-n g c =
     let t : Stage = stage_of c.args.self.now in
-    let out = c.args.out.now in
-    let answer : Err (refusal.Short c.states-n.result) ≡ map_reply t (length out) =
-    ap (λ (x : ℕ). Err (refusal.Short x)) c.states-n.ensures
-    ∙ short (length out) t.machine.states _ (omega (arith, c.states-n.ensures)) ∙ heard t _ (sound_so t tt tt c.in_ok-heard.ensures) in
-    record { answer = answer; buffer = leaves _ _ _ _ answer; means = tt }
+    map_refused t c.args.out.now _
+    (ap (λ (x : ℕ). Err (refusal.Short x)) c.states-n.ensures
+    ∙ short (length c.args.out.now) t.machine.states _ (omega (arith, c.states-n.ensures)) ∙ heard t _ (sound_so t tt tt c.in_ok-heard.ensures))
 
 pub copy_front-requires : goal.copy_front-requires
 copy_front-requires g c =

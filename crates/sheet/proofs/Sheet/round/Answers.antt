@@ -11,9 +11,7 @@ returns-in_err-still_open-clause-answer g c =
     rw (p.1, p.2) (closed (stage_of c.args.self.now) tt _ _ c.in_err-still_open.ensures)
 
 pub advance-requires : goal.advance-requires
-advance-requires g c =
-    let so = open_so (stage_of c.args.self.now) tt tt c.in_ok-still_open.ensures in
-    record { sound = so.0; unsettled = so.1 }
+advance-requires g c = open_so (stage_of c.args.self.now) tt tt c.in_ok-still_open.ensures
 
 pub returns-clause-means : goal.returns-clause-means
 returns-clause-means g c =

@@ -20,10 +20,7 @@ pub advance-requires : goal.advance-requires
 advance-requires g c =
     let so = open_so (stage_of c.args.self.now) tt tt c.in_ok-still_open.ensures in
     let e = c.rounds.invariant.1 in
-    record {
-      sound = ap (λ (x : Stage). x.sound) e ∙ so.0;
-      unsettled = ap (λ (x : Stage). x.settled) e ∙ so.1;
-    }
+    (ap (λ (x : Stage). x.sound) e ∙ so.0, ap (λ (x : Stage). x.settled) e ∙ so.1)
 
 pub rounds-preserved : goal.rounds-preserved
 rounds-preserved g c =

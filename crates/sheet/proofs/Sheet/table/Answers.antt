@@ -10,9 +10,9 @@ use Rattle.sheet.specs.declared.answers.TableBuffer.TheVariants as buffer
 use Rattle.sheet.specs.Stage.{Stage, if_ok}
 use Rattle.sheet.specs.Standing.{stage_of}
 use Rattle.sheet.specs.Tables.{cell_count, next_at, table_reply}
-use Rattle.sheet.proofs.Answering.{leaves, unsound, sound_so, heard, next_short, outputs_short, tabled}
+use Rattle.sheet.proofs.Answering.{unsound, sound_so, heard, next_short, outputs_short, tabled}
 use Rattle.sheet.proofs.Keeping.{blocks_kept, counted, known}
-use Rattle.sheet.proofs.Meaning.{table_means_at}
+use Rattle.sheet.proofs.Meaning.{table_means_at, table_refused}
 use Rattle.std.proofs.lemmas.Bool.{cond-false}
 use Rattle.sheet.specs.Means.{TableMeans}
 use Rattle.sheet.specs.Steps.{Front}
@@ -22,39 +22,33 @@ use Rattle.sheet.proofs.Sheet.table.Goals as goal
 
 pub returns-in_err-heard : goal.returns-in_err-heard
 returns-in_err-heard g c =
-    let t : Stage = stage_of c.args.self.now in
-    let answer : Err c.in_err-heard.field-0.0 ≡ table_reply t (length c.args.next.now) (length c.args.outputs.now) =
-    unsound t tt _ _ c.in_err-heard.ensures in
+    let a = c.args.self.now in
     let p = err_from_is_err_and c.from_residual.result c.from_residual.ensures.1 in
-    rw (p.1, p.2) (record { answer = answer; next = leaves _ _ _ _ answer; outputs = refl; means = tt })
+    rw (p.1, p.2) (table_refused g.M.Out.Output.key (g.M.Machine.means a.machine).entry (stage_of a) c.args.next.now c.args.outputs.now _
+    (unsound (stage_of a) tt _ _ c.in_err-heard.ensures))
 
 pub returns-then-not-self : goal.returns-then-not-self
 returns-then-not-self g c =
     let a = c.args.self.now in
-    let t : Stage = stage_of a in
-    let answer : Err refusal.Unsettled ≡ table_reply t (length c.args.next.now) (length c.args.outputs.now) =
-    sym (cond-false a.settled _ _ c.if-not-self.true) ∙ heard t _ (sound_so t tt tt c.in_ok-heard.ensures) in
-    record { answer = answer; next = leaves _ _ _ _ answer; outputs = refl; means = tt }
+    table_refused g.M.Out.Output.key (g.M.Machine.means a.machine).entry (stage_of a) c.args.next.now c.args.outputs.now _
+    (sym (cond-false a.settled _ _ c.if-not-self.true) ∙ heard (stage_of a) _ (sound_so (stage_of a) tt tt c.in_ok-heard.ensures))
 
 pub returns-then-next-total : goal.returns-then-next-total
 returns-then-next-total g c =
     let a = c.args.self.now in
-    let t : Stage = stage_of a in
-    let so = sound_so t tt tt c.in_ok-heard.ensures in
+    let so = sound_so (stage_of a) tt tt c.in_ok-heard.ensures in
     let total = (blocks_kept a (g.met.M.Machine.sizes a.machine) so c.inputs.result c.inputs.ensures).all in
-    let answer : Err (refusal.ShortTable buffer.Next) ≡ table_reply t (length c.args.next.now) (length c.args.outputs.now) =
-    next_short t c.if-not-self.false (length c.args.next.now) (length c.args.outputs.now) (omega (arith, total)) ∙ heard t _ so in
-    record { answer = answer; next = leaves _ _ _ _ answer; outputs = refl; means = tt }
+    table_refused g.M.Out.Output.key (g.M.Machine.means a.machine).entry (stage_of a) c.args.next.now c.args.outputs.now _
+    (next_short (stage_of a) c.if-not-self.false (length c.args.next.now) (length c.args.outputs.now) (omega (arith, total)) ∙ heard (stage_of a) _ so)
 
 pub returns-then-outputs-total : goal.returns-then-outputs-total
 returns-then-outputs-total g c =
     let a = c.args.self.now in
-    let t : Stage = stage_of a in
-    let so = sound_so t tt tt c.in_ok-heard.ensures in
+    let so = sound_so (stage_of a) tt tt c.in_ok-heard.ensures in
     let total = (blocks_kept a (g.met.M.Machine.sizes a.machine) so c.inputs.result c.inputs.ensures).all in
-    let answer : Err (refusal.ShortTable buffer.Outputs) ≡ table_reply t (length c.args.next.now) (length c.args.outputs.now) =
-    outputs_short t c.if-not-self.false (length c.args.next.now) (length c.args.outputs.now) (omega (arith, total)) (omega (arith, total)) ∙ heard t _ so in
-    record { answer = answer; next = leaves _ _ _ _ answer; outputs = refl; means = tt }
+    table_refused g.M.Out.Output.key (g.M.Machine.means a.machine).entry (stage_of a) c.args.next.now c.args.outputs.now _
+    (outputs_short (stage_of a) c.if-not-self.false (length c.args.next.now) (length c.args.outputs.now) (omega (arith, total)) (omega (arith, total))
+    ∙ heard (stage_of a) _ so)
 
 pub fill-requires : goal.fill-requires
 fill-requires g c =
