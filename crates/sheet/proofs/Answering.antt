@@ -1,7 +1,7 @@
 -- Which way a reply goes.
 use Rattle.std.proofs.Common.{◌≡◌, ℕ, suc, ◌<◌, ◌≤◌, Bool, true, false, cond, ◌&&◌, ltb, leb, Some, None, Ok, Err, Option, IfSome, Result, refl, sym, ap, ◌∙◌, arith}
 use Rattle.std.specs.Option.{ok_or}
-use Rattle.std.proofs.lemmas.Bool.{cond-true, cond-false, cond_both, and_parts, and_from, lt-ltb, le-ltb, leb-true, le-leb, ltb-true, eq-eqb, ne_eqb}
+use Rattle.std.proofs.lemmas.Bool.{cond-true, cond-false, cond_both, and_parts, and_from, lt-ltb, le-ltb, leb-true, ltb-true, eq-eqb, ne_eqb}
 use Rattle.mealy.specs.Partitions.{block_count, parted, Settled}
 use Rattle.mealy.proofs.Below.{by_test}
 use Rattle.mealy.proofs.Rounds.{settled_from}

@@ -1,8 +1,7 @@
 -- Lists written from the front.
-use Rattle.std.proofs.Common.{◌≡◌, ℕ, zero, suc, ◌+◌, ◌*◌, ◌/◌, ◌<◌, ◌≤◌, true, false, eqb, List, [], ◌∷◌, ◌++◌, length, get_or, take, drop, set, Option, Some, None, MatchOption, sym, refl, ap, ◌∙◌, subst, ⊎_elim, div-lt_iff_lt-mul, mul-zero, arith}
+use Rattle.std.proofs.Common.{◌≡◌, ℕ, zero, suc, ◌+◌, ◌*◌, ◌/◌, ◌<◌, ◌≤◌, true, false, eqb, List, [], ◌∷◌, length, get_or, take, drop, set, Option, Some, None, MatchOption, sym, refl, ap, ◌∙◌, subst, div-lt_iff_lt-mul, mul-zero, arith}
 use Rattle.std.specs.List.{slice_get, AllWithin, HoldsAt}
-use Rattle.std.proofs.lemmas.List.{drop_more, set_at, length-take-le, get_or-take, take_more, append_assoc, drop-set-lt, drop-drop}
-use Rattle.std.proofs.lemmas.Bool.{cases_lt}
+use Rattle.std.proofs.lemmas.List.{length-take-le, get_or-take, drop-set-lt, drop-drop}
 use Rattle.mealy.specs.Below.{lowest}
 use Rattle.rounds.specs.Joining.{some_below}
 use Rattle.rounds.proofs.Firsts.{lowest_is_found}

@@ -154,7 +154,7 @@ word_means t k s u before r after e f =
 
 -- A word refused: nothing is written.
 pub word_refused : (t : Stage) → Known t → (s u : ℕ) (out : List ℕ) (e : Refusal) → Err e ≡ word_reply t s u (length out)
-    → record {answer : Err e ≡ word_reply t s u (length out); buffer : out ≡ word_after t s u out; means : WordMeans t s u (Err e) out}
+    → record { answer : Err e ≡ word_reply t s u (length out); buffer : out ≡ word_after t s u out; means : WordMeans t s u (Err e) out }
 word_refused t k s u out e answer =
     let buffer : out ≡ word_after t s u out = leaves _ _ _ _ answer in
     record { answer = answer; buffer = buffer; means = word_means t k s u out _ _ answer buffer }
@@ -202,12 +202,12 @@ map_means t k before r after e f =
 
 -- A map or a table refused: nothing is written.
 pub map_refused : (t : Stage) (out : List ℕ) (e : Refusal) → Err e ≡ map_reply t (length out)
-    → record {answer : Err e ≡ map_reply t (length out); buffer : out ≡ map_after t out; means : MapMeans {U = Unit {0}} t (Err e) out}
+    → record { answer : Err e ≡ map_reply t (length out); buffer : out ≡ map_after t out; means : MapMeans {U = Unit {0}} t (Err e) out }
 map_refused t out e answer = record { answer = answer; buffer = leaves _ _ _ _ answer; means = tt }
 
 pub table_refused : {O F : Type 0} (key : O → List ℤ) (entry : ℕ → ℕ → Result (Cell O) F) (t : Stage) (xs : List ℕ) (ys : List O) (e : Refusal)
     → Err e ≡ table_reply t (length xs) (length ys)
-    → record {answer : Err e ≡ table_reply t (length xs) (length ys); next : xs ≡ next_after t (length ys) xs; outputs : OutputsAfter entry t (Err e) ys ys; means : TableMeans key t (Err e) xs ys}
+    → record { answer : Err e ≡ table_reply t (length xs) (length ys); next : xs ≡ next_after t (length ys) xs; outputs : OutputsAfter entry t (Err e) ys ys; means : TableMeans key t (Err e) xs ys }
 table_refused key entry t xs ys e answer = record { answer = answer; next = leaves _ _ _ _ answer; outputs = refl; means = tt }
 
 -- A table that was written.

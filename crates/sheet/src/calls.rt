@@ -140,8 +140,7 @@ impl<M: Machine> Sheet<M> {
         ensures answer { result ≡ pair_reply (stage_of self.now) s t }
         ensures means { PairMeans (stage_of self.now) s t result }
     {
-        let found = self.parted(s, t)?;
-        Ok(tell(found, self.settled))
+        Ok(tell(self.parted(s, t)?, self.settled))
     }
 
     /// Writes the block number of each state.

@@ -1,5 +1,4 @@
-use Rattle.std.proofs.Common.{is_ok, ◌∙◌, arith}
-use Rattle.machine.specs.Theory.{sound_by}
+use Rattle.std.proofs.Common.{◌∙◌, arith}
 use Rattle.machine.proofs.Theory.{sound_decides}
 use Rattle.std.proofs.lemmas.Bool.Decides.{same_from_decides}
 use Rattle.sheet.proofs.Keeping.{kept_fresh}

@@ -1,12 +1,10 @@
-use Rattle.std.proofs.Common.{◌≡◌, ℕ, ◌*◌, ◌≤◌, List, [], ◌++◌, map, length, get_or, drop, Ok, Err, Result, sym, refl, ap, ◌∙◌, subst, mul-le-mul_right, arith}
+use Rattle.std.proofs.Common.{◌≡◌, ℕ, ◌*◌, ◌≤◌, List, [], ◌++◌, map, length, get_or, drop, Ok, Result, sym, ap, ◌∙◌, subst, mul-le-mul_right, arith}
 use Rattle.machine.proofs.Theory.{start_fits, sound_fits}
 use Rattle.mealy.specs.Mealy.{Mealy}
 use Rattle.mealy.specs.Partitions.{block, block_count}
 use Rattle.std.specs.List.{range_with_len}
 use Rattle.sheet.specs.declared.answers.Refusal.{Refusal}
-use Rattle.sheet.specs.declared.answers.Refusal.TheVariants as refusal
 use Rattle.sheet.specs.declared.answers.Table.{Table}
-use Rattle.sheet.specs.declared.answers.TableBuffer.TheVariants as buffer
 use Rattle.sheet.specs.Stage.{Stage, if_ok}
 use Rattle.sheet.specs.Standing.{stage_of}
 use Rattle.sheet.specs.Tables.{cell_count, next_at, table_reply}

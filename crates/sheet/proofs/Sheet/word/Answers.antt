@@ -3,8 +3,7 @@ use Rattle.mealy.specs.FirstWord.{first_word, word_of}
 use Rattle.mealy.specs.Mealy.{Mealy}
 use Rattle.mealy.specs.Partitions.{parted}
 use Rattle.sheet.specs.declared.answers.Refusal.{Refusal}
-use Rattle.sheet.specs.declared.answers.Refusal.TheVariants as refusal
-use Rattle.sheet.specs.Replies.{word_at, word_reply, word_after}
+use Rattle.sheet.specs.Replies.{word_reply, word_after}
 use Rattle.sheet.specs.Stage.{Stage, if_ok}
 use Rattle.sheet.specs.Standing.{stage_of}
 use Rattle.sheet.proofs.Answering.{no_states, states_so, through, short, room, some_so, none_so, taken_is, not_apart_at, word_taken}
