@@ -5,8 +5,8 @@ ghost use Rattle.writing.specs.Runs.{row_of, ends_run};
 ghost use Rattle.writing.specs.Written.{records, place_of};
 
 use crate::bytes::put_all;
+use arrayvec::ArrayVec;
 use machine::{Cell, Command, Machine};
-use std::array;
 
 /// The inputs `from` to `to`.
 #[derive(Clone, Copy)]
@@ -51,56 +51,52 @@ fn record_place(states: u16, number: u16) -> usize
 fn cell_or_none<M: Machine<Out = Command>>(machine: &M, state: u16, input: u16) -> Cell<Command>
     ensures { result ≡ row_of (M.Machine.means machine.now) state input }
 {
-    machine.entry(state, input).unwrap_or(Cell {
-        next: 0,
-        output: Command { number: 0 },
-    })
+    machine.entry(state, input).unwrap_or_default()
 }
 
-/// A state's cells: as many as inputs, and behind them places with none.
-#[derive(Clone, Copy)]
+/// A state's cells, input by input.
+#[derive(Drop)]
 pub(crate) struct Row {
-    inputs: u16,
-    // stays: an `ArrayVec` cannot be made empty of cells, since `Cell` has no `Default` for the places that are not used
-    cells: [Cell<Command>; 32],
-    ghost few: { inputs ≤ 32 },
+    cells: ArrayVec<Cell<Command>, 32>,
 }
 
 impl Row {
     ghost use Rattle.writing.specs.Rows.{cells_in, runs_in};
 
     pub(crate) fn of<M: Machine<Out = Command>>(machine: &M, state: u16) -> Row
-        ensures inputs { result.inputs ≡ (M.Machine.means machine.now).inputs }
+        ensures inputs { length result.cells.items ≡ (M.Machine.means machine.now).inputs }
         ensures cells { cells_in result ≡ row_of (M.Machine.means machine.now) state }
     {
-        Row {
-            inputs: machine.inputs(),
-            cells: array::from_fn(|i| cell_or_none(machine, state, i as u16)),
+        let mut cells = ArrayVec::new();
+        for input in 0..machine.inputs() {
+            cells.push(cell_or_none(machine, state, input));
         }
+        Row { cells }
     }
 
     /// Whether a longest run ends at an input.
-    fn ends_run(&self, input: u16) -> bool
-        requires { input < self.now.inputs }
-        ensures { result ≡ ends_run (cells_in self.now) self.now.inputs input }
+    fn ends_run(&self, input: usize) -> bool
+        requires { input < length self.now.cells.items }
+        ensures { result ≡ ends_run (cells_in self.now) (length self.now.cells.items) input }
     {
-        let i = input as usize;
-        input + 1 == self.inputs || self.cells[i] != self.cells[i + 1]
+        let last = self.cells.len() - 1;
+        input == last || self.cells[input] != self.cells[input + 1]
     }
 
     pub(crate) fn count_runs(&self) -> u16
         ensures { result ≡ length (runs_in self.now) }
     {
-        (0..self.inputs).filter(|i| self.ends_run(*i)).count() as u16
+        (0..self.cells.len()).filter(|i| self.ends_run(*i)).count() as u16
     }
 
     /// The link of record `number`, whose run ends at `to`: only the last run of a state has no other behind it.
-    fn link(&self, to: u16, number: u16) -> u16
-        requires below { to < self.now.inputs }
+    fn link(&self, to: usize, number: u16) -> u16
+        requires below { to < length self.now.cells.items }
         requires few { number ≤ 4096 }
-        ensures { result ≡ (if nat_lt (to + 1) self.now.inputs then number + 1 else 0) }
+        ensures { result ≡ (if nat_lt (to + 1) (length self.now.cells.items) then number + 1 else 0) }
     {
-        if to + 1 < self.inputs { number + 1 } else { 0 }
+        let last = self.cells.len() - 1;
+        if to == last { 0 } else { number + 1 }
     }
 
     /// Writes the records of the runs, the first of which is numbered `first`.
@@ -113,11 +109,15 @@ impl Row {
         // stays: `ends.zip(first..)` would number the records, but where a run begins is carried on by hand all the same
         let mut number = first;
         let mut from = 0;
-        for to in 0..self.inputs {
+        for to in 0..self.cells.len() {
             if self.ends_run(to) {
+                let run = Run {
+                    from: from as u16,
+                    to: to as u16,
+                };
                 let record = Record {
-                    run: Run { from, to },
-                    cell: self.cells[from as usize],
+                    run,
+                    cell: self.cells[from],
                     link: self.link(to, number),
                 };
                 record.put(out, record_place(states, number));

@@ -1,4 +1,4 @@
-use Rattle.std.proofs.Common.{◌≡◌, refl, ◌∙◌, arith}
+use Rattle.std.proofs.Common.{◌≡◌, length, refl, ◌∙◌, arith}
 use Rattle.writing.specs.Rows.{cells_in}
 use Rattle.writing.proofs.Counts.{length_listed, few_before, before_part, count_is, head_in, rows_more}
 use Rattle.writing.proofs.plans.Plan.put_rows.Goals as goal
@@ -23,7 +23,7 @@ loop-state-preserved g c =
     let m = g.M.Machine.means c.args.self.now.machine.now in
     let s = c.loop-state.state in
     let h = head_in m s _ (c.deref-head-items.ensures.0 ∙ c.args.self.now.heads_are) (omega arith) in
-    rows_more m s c.of.result.inputs c.states-states.result _ (cells_in c.of.result)
+    rows_more m s (length c.of.result.cells.items) c.states-states.result _ (cells_in c.of.result)
     c.args.out.now c.loop-state.out c.put.new.out
     c.of.ensures.cells c.of.ensures.inputs h.1 c.loop-state.invariant c.put.ensures
 

@@ -1,20 +1,31 @@
-use Rattle.std.proofs.Common.{rules, arith}
+use Rattle.std.proofs.Common.{◌≡◌, ◌<◌, length, ◌∙◌, arith, lit<}
 use Rattle.machine.proofs.Theory.{few_inputs}
 use Rattle.writing.specs.Runs.{no_cell, row_of}
-use Rattle.writing.proofs.Kept.{made_at, kept}
+use Rattle.writing.proofs.Kept.{pushed, kept}
 use Rattle.writing.proofs.rows.Row.of.Goals as goal
 
-pub invariant_of-result : goal.invariant_of-result
-invariant_of-result g c =
+pub push-requires : goal.push-requires
+push-requires g c =
     let at = c.args.machine.now in
     let few = few_inputs (g.M.Machine.means at) (g.met.M.Machine.sizes at) in
-    record { few = omega (arith, c.inputs.ensures) }
+    let h : length c.loop-input.cells.items < 32 = omega (arith, few, c.loop-input.invariant.long, c.inputs-input-end.ensures) in
+    (lit< tt, h)
 
-pub returns-clause-cells : goal.returns-clause-cells
-returns-clause-cells g c =
+pub loop-input-preserved : goal.loop-input-preserved
+loop-input-preserved g c =
+    let old = c.loop-input.invariant in
+    record {
+      long = omega (arith, c.push.ensures.len, old.long);
+      each = pushed c.loop-input.cells.items _ c.loop-input.input _ (row_of (g.M.Machine.means c.args.machine.now) c.args.state) no_cell
+      old.long old.each c.push.ensures.items c.cell_or_none.ensures;
+    }
+
+pub returns : goal.returns
+returns g c =
     let at = c.args.machine.now in
-    let m = g.M.Machine.means at in
-    let s = c.args.state in
-    let made = c.from_fn.ensures.items in
-    kept m s c.from_fn.result (g.met.M.Machine.inside at) (few_inputs m (g.met.M.Machine.sizes at)) made.long
-    (λ i l. made_at _ _ (row_of m s) (λ j y q k. search rules) c.from_fn.result 0 32 i no_cell made.each (omega arith) (omega arith))
+    let all : c.loop-input.input ≡ (g.M.Machine.means at).inputs = omega (arith, c.inputs-input-end.ensures) in
+    record {
+      inputs = c.loop-input.invariant.long ∙ all;
+      cells = kept (g.M.Machine.means at) c.args.state _ c.loop-input.cells.items (g.met.M.Machine.inside at) all
+      c.loop-input.invariant.long c.loop-input.invariant.each;
+    }
