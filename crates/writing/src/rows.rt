@@ -1,5 +1,5 @@
 //! One state's cells, and their longest runs.
-ghost use Rattle.std.specs.Prelude.{◌≡◌, ◌+◌, ◌*◌, ◌<◌, ◌≤◌, [], ◌∷◌, length, if◌then◌else◌, nat_lt};
+ghost use Rattle.std.specs.Prelude.{◌≡◌, ◌+◌, ◌*◌, ◌<◌, ◌≤◌, [], ◌∷◌, length};
 ghost use Rattle.writing.specs.Bytes.{puts};
 ghost use Rattle.writing.specs.Runs.{row_of, ends_run};
 ghost use Rattle.writing.specs.Written.{records, place_of};
@@ -9,7 +9,7 @@ use arrayvec::ArrayVec;
 use machine::{Cell, Command, Machine};
 
 /// The inputs `from` to `to`.
-#[derive(Clone, Copy)]
+#[derive(Clone, Copy, Default)]
 struct Run {
     from: u16,
     to: u16,
@@ -83,20 +83,28 @@ impl Row {
         input == last || self.cells[input] != self.cells[input + 1]
     }
 
+    /// The longest runs, in input order.
+    fn runs(&self) -> ArrayVec<Run, 32>
+        ensures { result.items ≡ runs_in self.now }
+    {
+        let mut runs = ArrayVec::new();
+        let mut from = 0;
+        for to in 0..self.cells.len() {
+            if self.ends_run(to) {
+                runs.push(Run {
+                    from: from as u16,
+                    to: to as u16,
+                });
+                from = to + 1;
+            }
+        }
+        runs
+    }
+
     pub(crate) fn count_runs(&self) -> u16
         ensures { result ≡ length (runs_in self.now) }
     {
-        (0..self.cells.len()).filter(|i| self.ends_run(*i)).count() as u16
-    }
-
-    /// The link of record `number`, whose run ends at `to`: only the last run of a state has no other behind it.
-    fn link(&self, to: usize, number: u16) -> u16
-        requires below { to < length self.now.cells.items }
-        requires few { number ≤ 4096 }
-        ensures { result ≡ (if nat_lt (to + 1) (length self.now.cells.items) then number + 1 else 0) }
-    {
-        let last = self.cells.len() - 1;
-        if to == last { 0 } else { number + 1 }
+        self.runs().len() as u16
     }
 
     /// Writes the records of the runs, the first of which is numbered `first`.
@@ -106,24 +114,17 @@ impl Row {
         requires room { 2 * (place_of states first + 5 * length (runs_in self.now)) ≤ length out.old }
         ensures { out.new ≡ puts out.old (place_of states first) (records (cells_in self.now) first (runs_in self.now)) }
     {
-        // stays: `ends.zip(first..)` would number the records, but where a run begins is carried on by hand all the same
-        let mut number = first;
-        let mut from = 0;
-        for to in 0..self.cells.len() {
-            if self.ends_run(to) {
-                let run = Run {
-                    from: from as u16,
-                    to: to as u16,
-                };
-                let record = Record {
-                    run,
-                    cell: self.cells[from],
-                    link: self.link(to, number),
-                };
-                record.put(out, record_place(states, number));
-                number += 1;
-                from = to + 1;
-            }
+        let runs = self.runs();
+        for (i, run) in runs.iter().enumerate() {
+            let number = first + i as u16;
+            // only the last record of a state has no other behind it
+            let link = if i + 1 == runs.len() { 0 } else { number + 1 };
+            let record = Record {
+                run: *run,
+                cell: self.cells[run.from as usize],
+                link,
+            };
+            record.put(out, record_place(states, number));
         }
     }
 }

@@ -16,8 +16,8 @@ loop-input-preserved g c =
     let old = c.loop-input.invariant in
     record {
       long = omega (arith, c.push.ensures.len, old.long);
-      each = pushed c.loop-input.cells.items _ c.loop-input.input _ (row_of (g.M.Machine.means c.args.machine.now) c.args.state) no_cell
-      old.long old.each c.push.ensures.items c.cell_or_none.ensures;
+      each = pushed c.loop-input.cells.items c.push.new.self.items c.loop-input.input c.cell_or_none.result (row_of (g.M.Machine.means c.args.machine.now) c.args.state) no_cell
+          old.long old.each c.push.ensures.items c.cell_or_none.ensures;
     }
 
 pub returns : goal.returns
@@ -27,5 +27,5 @@ returns g c =
     record {
       inputs = c.loop-input.invariant.long ∙ all;
       cells = kept (g.M.Machine.means at) c.args.state _ c.loop-input.cells.items (g.met.M.Machine.inside at) all
-      c.loop-input.invariant.long c.loop-input.invariant.each;
+          c.loop-input.invariant.long c.loop-input.invariant.each;
     }

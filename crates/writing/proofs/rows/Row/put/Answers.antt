@@ -1,40 +1,44 @@
-use Rattle.std.proofs.Common.{◌≡◌, suc, ◌+◌, ◌-◌, length, slice_index_or, sym, ap, arith}
-use Rattle.writing.specs.Runs.{no_cell}
+use Rattle.std.proofs.Common.{◌≡◌, ◌+◌, drop, length, get_or, slice_index_or, sym, ap, ◌∙◌, arith}
+use Rattle.std.proofs.lemmas.List.{drop_more, drop_all, length-drop}
 use Rattle.writing.specs.Rows.{cells_in}
-use Rattle.writing.proofs.RunSteps.{stands_below, stands_as, stands_on, stands_end}
+use Rattle.writing.specs.Runs.{no_cell, run}
+use Rattle.writing.specs.Written.{link_to}
+use Rattle.writing.proofs.RunSteps.{link_last, link_next, record_more, records_done}
+use Rattle.writing.proofs.Tiles.{begins_below}
 use Rattle.writing.proofs.rows.Row.put.Goals as goal
-use Rattle.writing.proofs.rows.Row.put.Goals.{then-ends_run, else-ends_run}
+use Rattle.writing.proofs.rows.Row.put.Goals.{then-i-len, else-i-len}
 
-pub link-requires-clause-few : goal.link-requires-clause-few
-link-requires-clause-few c =
+pub bounds-deref-run : goal.bounds-deref-run
+bounds-deref-run c =
     let k = length c.args.self.now.cells.items in
-    let i = c.loop-to.to in
-    let below = stands_below (cells_in c.args.self.now) k _ _ _ _ _ i (k - i) (k - (i + 1)) _ (omega arith) c.loop-to.invariant
-    (sym c.if-ends_run.ensures) in
-    omega (arith, below, c.requires.counted)
+    let e = c.deref-run-items.ensures.0 ∙ c.runs-runs.ensures in
+    let b = begins_below (cells_in c.args.self.now) k c.loop-i.i c.deref-run-items.result.now (run 0 0) e c.loop-i-test.true in
+    omega (arith, b, ap length c.deref.ensures.0)
 
-pub put-requires : goal.put-requires
-put-requires c =
-    let k = length c.args.self.now.cells.items in
-    let i = c.loop-to.to in
-    let below = stands_below (cells_in c.args.self.now) k _ _ _ _ _ i (k - i) (k - (i + 1)) _ (omega arith) c.loop-to.invariant
-    (sym c.if-ends_run.ensures) in
-    omega (arith, below, c.loop-to.invariant.risen, c.requires.room)
+pub loop-i-preserved : goal.loop-i-preserved
+loop-i-preserved c =
+    let items = c.deref-run-items.result.now in
+    let i = c.loop-i.i in
+    let r = c.args.first + i in
+    let rest = drop (i + 1) items in
+    let long = length-drop (i + 1) items in
+    let all : c.len.result ≡ length items = c.len.ensures.value ∙ ap length (sym c.deref-run-items.ensures.0) in
+    let link : c.if-i-len.link ≡ link_to (r + 1) rest =
+    elim c.if-i-len.branch [
+      | then-i-len w ↦ w.link-is ∙ sym (link_last (r + 1) rest (omega (arith, w.if-i-len.true, all, long)))
+      | else-i-len w ↦ w.link-is ∙ sym (link_next (r + 1) rest (omega (arith, w.if-i-len.false, all, long, c.loop-i-test.true)))
+    ] in
+    let x = get_or items i (run 0 0) in
+    let cell : slice_index_or c.deref.result.now x.from no_cell ≡ cells_in c.args.self.now x.from =
+    ap (λ xs. slice_index_or xs x.from no_cell) c.deref.ensures.0 in
+    record_more (cells_in c.args.self.now) c.args.states r (c.args.first + (i + 1)) c.if-i-len.link c.loop-i.out c.put.new.out x
+    (slice_index_or c.deref.result.now x.from no_cell) (drop i items) rest
+    (omega arith) (drop_more items i (run 0 0) c.loop-i-test.true) (omega (arith, c.requires.some)) link cell (cc (c.put.ensures, c.record_place.ensures))
+    ∙ c.loop-i.invariant
 
-pub loop-to-preserved : goal.loop-to-preserved
-loop-to-preserved c =
+pub returns : goal.returns
+returns c =
     let row = cells_in c.args.self.now in
-    let k = length c.args.self.now.cells.items in
-    let i = c.loop-to.to in
-    let e : k - i ≡ suc (k - (i + 1)) = omega arith in
-    elim c.if-ends_run.branch [
-      | then-ends_run w ↦ stands_as row k _ _ _ _ _ _ _ _ _ _ _ w.out-is w.from-is w.number-is
-          (stands_end row k c.args.states c.args.first c.args.out.now c.loop-to.out c.loop-to.from i (k - i) (k - (i + 1))
-          c.loop-to.number e c.loop-to.invariant w.put.new.out w.record_place.result w.link.result
-          (slice_index_or w.deref.result.now c.loop-to.from no_cell) (sym w.if-ends_run.ensures) c.requires.some (omega arith)
-          (ap (λ xs. slice_index_or xs c.loop-to.from no_cell) w.deref.ensures.0) w.record_place.ensures
-          w.link.ensures w.put.ensures)
-      | else-ends_run w ↦ stands_as row k _ _ _ _ _ _ _ _ _ _ _ w.out-is w.from-is w.number-is
-          (stands_on row k c.args.states c.args.first c.args.out.now c.loop-to.out c.loop-to.from i (k - i) (k - (i + 1))
-          c.loop-to.number e c.loop-to.invariant (sym w.if-ends_run.ensures))
-    ]
+    let items = c.deref-run-items.result.now in
+    records_done row c.args.states c.args.first (c.args.first + c.loop-i.i) c.args.out.now c.loop-i.out items _ _
+    (drop_all c.loop-i.i items c.loop-i-test.false) (c.deref-run-items.ensures.0 ∙ c.runs-runs.ensures) c.loop-i.invariant
