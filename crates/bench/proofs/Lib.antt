@@ -1,2 +1,3 @@
 mod Again
+mod Mapped
 mod Rows

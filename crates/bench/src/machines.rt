@@ -130,9 +130,7 @@ impl Measured {
         let grid = self.grid(heap)?;
         let cells = self.states as usize * self.inputs as usize;
         let mut bytes = vec![in heap; 0u8; 2 * (4 + self.states as usize + 5 * cells)]?;
-        let Ok(needed) = write_chain(&grid, &mut bytes) else {
-            return Err(anyhow!("no chain to write"));
-        };
+        let needed = write_chain(&grid, &mut bytes).map_err(|_| anyhow!("no chain to write"))?;
         bytes.truncate(needed);
         open_chain(bytes)
     }

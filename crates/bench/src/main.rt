@@ -79,9 +79,7 @@ fn settle<M: Machine + Drop>(rt: &HostRuntime, machine: M) -> anyhow::Result<Set
 {
     let start = Instant::now(rt)?;
     let mut sheet = Sheet::open(machine);
-    let Ok(answer) = sheet.settle() else {
-        return Err(anyhow!("not sound"));
-    };
+    let answer = sheet.settle().map_err(|_| anyhow!("not sound"))?;
     let nanos = start.elapsed(rt)?.as_nanos();
     Ok(Settled { answer, nanos })
 }
@@ -112,7 +110,8 @@ fn print_row(rt: &HostRuntime, form: Form, of: Measured, repeats: u32) -> anyhow
     Ok(())
 }
 
-/// The argument, or 0: then no time is printed.
+/// How often each machine is settled again: the argument, or not at all. Without repeats no time is printed.
+// stays: an `Option` would not tell apart what is done: an argument of 0 prints no time either, so `Some(0)` and `None` would be one case
 fn repeats(rt: &HostRuntime) -> anyhow::Result<u32> {
     match env::args(rt)?.nth(1) {
         Some(word) => Ok(word.parse::<u32>()?),

@@ -64,9 +64,7 @@ mod tests {
     fn a_fault_comes_up_whole(rt: HostRuntime) -> Result<(), Fail> {
         let keys = Keymap::new(Ring::open(3)?, &[0, 0, 3]);
         let pile = Beside::new(Ring::open(4)?, Train::new(keys, Ring::open(2)?));
-        let Err(fault) = pile.entry(4, 2) else {
-            return Err(Fail::new("a cell"));
-        };
+        let fault = pile.entry(4, 2).err().ok_or_else(|| Fail::new("a cell"))?;
         assert_eq!(rt; fault.cause(), Cause::Input);
         let carried = PairFault::Second(PairFault::First(KeymapFault::Part(past())));
         assert_eq!(rt; fault, carried);
