@@ -1,5 +1,5 @@
 //! What a settled sheet hands out, call by call.
-ghost use Rattle.std.specs.Prelude.{◌≡◌, ◌+◌, ◌<◌, true, false, ◌==◌, ◌++◌, map, length, is_ok, IfOk, Some, OnOk};
+ghost use Rattle.std.specs.Prelude.{◌≡◌, ◌+◌, ◌<◌, true, false, ◌==◌, ◌++◌, map, length, is_ok, IfOk, Some, OnOk, slice_index};
 ghost use Rattle.std.specs.List.{position};
 ghost use Rattle.mealy.specs.FirstWord.{word_of};
 ghost use Rattle.mealy.specs.Partitions.{blocks, block_count};
@@ -66,7 +66,11 @@ impl<M: Machine> Done<M> {
         let map = self.map(heap)?;
         let handed = self.table(heap)?;
         let leaders = self.leaders(heap, &map)?;
-        let aparts = self.aparts(heap, &leaders)?;
+        let led = Led {
+            done: self,
+            leaders: &leaders,
+        };
+        let aparts = led.aparts(heap)?;
         Ok(Reduction {
             states: self.states,
             inputs: self.inputs,
@@ -135,25 +139,34 @@ impl<M: Machine> Done<M> {
         word.truncate(length);
         Ok(word)
     }
+}
 
-    /// Adds what tells a class from each class above it.
+/// A settled sheet, and the lowest state of each of its classes.
+#[derive(Drop)]
+struct Led<'a, M: Machine> {
+    done: &'a Done<M>,
+    leaders: &'a [u16],
+    ghost lowest: { leaders.now ≡ leaders_of (stage_of done.now.sheet) },
+}
+
+impl<'a, M: Machine> Led<'a, M> {
+    /// Adds what tells a class from each class above it, by the lowest state of the class.
     fn push_aparts(
         &self,
         heap: Global,
-        leaders: &[u16],
         class: usize,
+        leader: u16,
         aparts: &mut Vec<Apart>,
     ) -> Result<(), AllocError>
-        requires leaders { leaders.now ≡ leaders_of (stage_of self.now.sheet) }
-        requires within { class < length leaders.now }
-        ensures { OnOk result (map apart_of aparts.new.items ≡ map apart_of aparts.old.items ++ aparts_above (stage_of self.now.sheet).machine self.now.sheet.rounds leaders.now class) }
+        requires within { class < length self.now.leaders.now }
+        requires leads { leader ≡ slice_index self.now.leaders.now class }
+        ensures { OnOk result (map apart_of aparts.new.items ≡ map apart_of aparts.old.items ++ aparts_above (stage_of self.now.done.now.sheet).machine self.now.done.now.sheet.rounds self.now.leaders.now class) }
     {
-        // stays: over `leaders.iter().enumerate().skip(class + 1)` the proof didn't close: its check hadn't ended after five minutes
-        for other in class + 1..leaders.len() {
-            let word = self.word(heap, leaders[class], leaders[other])?;
+        for (above, other) in self.leaders[class + 1..].iter().enumerate() {
+            let word = self.done.word(heap, leader, *other)?;
             aparts.push(Apart {
                 first: class as u16,
-                second: other as u16,
+                second: (class + 1 + above) as u16,
                 word,
             })?;
         }
@@ -161,13 +174,12 @@ impl<M: Machine> Done<M> {
     }
 
     /// What tells each two classes apart, rising.
-    fn aparts(&self, heap: Global, leaders: &[u16]) -> Result<Vec<Apart>, AllocError>
-        requires leaders { leaders.now ≡ leaders_of (stage_of self.now.sheet) }
-        ensures { IfOk result (λ v. map apart_of v.items ≡ aparts_of (stage_of self.now.sheet).machine self.now.sheet.rounds leaders.now) }
+    fn aparts(&self, heap: Global) -> Result<Vec<Apart>, AllocError>
+        ensures { IfOk result (λ v. map apart_of v.items ≡ aparts_of (stage_of self.now.done.now.sheet).machine self.now.done.now.sheet.rounds self.now.leaders.now) }
     {
         let mut aparts = Vec::new(heap);
-        for class in 0..leaders.len() {
-            self.push_aparts(heap, leaders, class, &mut aparts)?;
+        for (class, leader) in self.leaders.iter().enumerate() {
+            self.push_aparts(heap, class, *leader, &mut aparts)?;
         }
         Ok(aparts)
     }

@@ -22,8 +22,8 @@ leaders-requires g c = record { map = c.deref.ensures.value ∙ c.in_ok-map.ensu
 pub returns-in_err-leaders : goal.returns-in_err-leaders
 returns-in_err-leaders g c = IfOk-from_err _ _ c.from_residual-in_err-leaders.ensures.0
 
-pub aparts-requires : goal.aparts-requires
-aparts-requires g c = record { leaders = c.deref-2.ensures.value ∙ c.in_ok-leaders.ensures }
+pub invariant_of-led : goal.invariant_of-led
+invariant_of-led g c = record { lowest = c.deref-2.ensures.value ∙ c.in_ok-leaders.ensures }
 
 pub returns-in_err-aparts : goal.returns-in_err-aparts
 returns-in_err-aparts g c = IfOk-from_err _ _ c.from_residual-in_err-aparts.ensures.0

@@ -7,28 +7,26 @@ use Rattle.texts.specs.Each.{each}
 use Rattle.texts.proofs.Pieces.{each_next, each_end}
 use Rattle.reductions.specs.Aparts.{Parting, apart_of, aparts_above}
 use Rattle.reductions.specs.declared.Apart.{Apart}
-use Rattle.reductions.proofs.handing.Done.aparts.Goals as goal
+use Rattle.reductions.proofs.handing.Led.aparts.Goals as goal
 
 pub loop-class-init : goal.loop-class-init
 loop-class-init g c =
-    let m : Mealy = (stage_of c.args.self.now.sheet).machine in
-    let leaders = c.args.leaders.now in
-    let f : ℕ → List Parting = aparts_above m c.args.self.now.sheet.rounds leaders in
+    let d = c.args.self.now.done.now in
+    let m : Mealy = (stage_of d.sheet).machine in
+    let leaders = c.args.self.now.leaders.now in
+    let f : ℕ → List Parting = aparts_above m d.sheet.rounds leaders in
     ap (λ (v : List Apart). map apart_of v ++ each f (range_with_len 0 (length leaders - 0))) c.new-aparts.ensures.items
     ∙ ap (λ (n : ℕ). each f (range_with_len 0 n)) (omega arith)
-
-pub push_aparts-requires : goal.push_aparts-requires
-push_aparts-requires g c =
-    record { leaders = c.requires.leaders; within = c.loop-class-test.true }
 
 pub returns-in_err-push_aparts : goal.returns-in_err-push_aparts
 returns-in_err-push_aparts g c = IfOk-from_err _ _ c.from_residual.ensures.0
 
 pub loop-class-preserved : goal.loop-class-preserved
 loop-class-preserved g c =
-    let m : Mealy = (stage_of c.args.self.now.sheet).machine in
-    let leaders = c.args.leaders.now in
-    let f : ℕ → List Parting = aparts_above m c.args.self.now.sheet.rounds leaders in
+    let d = c.args.self.now.done.now in
+    let m : Mealy = (stage_of d.sheet).machine in
+    let leaders = c.args.self.now.leaders.now in
+    let f : ℕ → List Parting = aparts_above m d.sheet.rounds leaders in
     let i = c.loop-class.class in
     ap (λ (v : List Parting). v ++ each f (range_with_len (0 + (i + 1)) (length leaders - (i + 1)))) c.in_ok-push_aparts.ensures
     ∙ each_next f (map apart_of (vec_items c.loop-class.aparts)) 0 (length leaders) i i c.loop-class-test.true (omega arith)
@@ -36,8 +34,9 @@ loop-class-preserved g c =
 
 pub returns : goal.returns
 returns g c =
-    let m : Mealy = (stage_of c.args.self.now.sheet).machine in
-    let leaders = c.args.leaders.now in
-    let f : ℕ → List Parting = aparts_above m c.args.self.now.sheet.rounds leaders in
+    let d = c.args.self.now.done.now in
+    let m : Mealy = (stage_of d.sheet).machine in
+    let leaders = c.args.self.now.leaders.now in
+    let f : ℕ → List Parting = aparts_above m d.sheet.rounds leaders in
     sym (each_end f (map apart_of (vec_items c.loop-class.aparts)) 0 (length leaders) c.loop-class.class (omega arith))
     ∙ c.loop-class.invariant
