@@ -12,6 +12,7 @@ use machine::{Machine, Output};
 /// A partition: the block number of each state, 0 past the states, and how many blocks there are.
 #[derive(Clone, Copy)]
 pub struct Refined {
+    // stays: a row of 128, here and below, by which no read needs a fact about a length; an `ArrayVec<u8, 128>` or a slice needs it at each
     pub row: [u8; 128],
     pub parts: u8,
 }
@@ -23,7 +24,7 @@ pub struct Numbering<'a, M> {
     pub row: &'a [u8; 128],
 }
 
-// stays: s and t as two numbers, here and in the sheet: a struct of two states would have no fact and no method of its own
+// stays: a `State` with `ghost few: { index < 128 }` would be made anew at each step of `(0..s)` and taken apart at each entry()
 impl<'a, M: Machine> Numbering<'a, M> {
     /// Whether two states have one number.
     fn in_one_block(&self, a: u16, b: u16) -> bool
@@ -37,8 +38,7 @@ impl<'a, M: Machine> Numbering<'a, M> {
     fn joins_at(&self, s: u16, t: u16, i: u16) -> bool
         ensures { result ≡ joins_at M.Out.key (M.Machine.means self.now.machine.now) self.now.row.now s t i }
     {
-        // stays: a match on the pair isn't covered (two branches join that hold different things), and a let of the pair always asks for
-        // both entries
+        // stays: by `let (Ok(a), Ok(b)) = (.., ..) else` the row beside, apart, 128 x 32 takes 0.80 ms, and by two lets 0.46 ms
         let Ok(a) = self.machine.entry(s, i) else {
             return false;
         };
@@ -52,8 +52,7 @@ impl<'a, M: Machine> Numbering<'a, M> {
     fn joins_everywhere(&self, s: u16, t: u16) -> bool
         ensures { result ≡ joins M.Out.key (M.Machine.means self.now.machine.now) self.now.row.now s t }
     {
-        // stays: by `(0..self.machine.inputs()).all(|i| self.joins_at(s, t, i))` a train of 128 states and 32 inputs settles in
-        // 3.1 ms, and so in 2.1 ms
+        // stays: by `(0..self.machine.inputs()).all(|i| self.joins_at(s, t, i))` the row train, stairs, 128 x 32 takes 3.2 ms, and so 2.2 ms
         for i in 0..self.machine.inputs() {
             if !self.joins_at(s, t, i) {
                 return false;

@@ -1,16 +1,6 @@
-use Rattle.std.proofs.Common.{Bool, ◌&&◌, eqb, get_or, sym, ap, ◌∙◌, arith}
-use Rattle.machine.proofs.Theory.{few_states}
+use Rattle.std.proofs.Common.{Bool, ◌&&◌, eqb, get_or, sym, ap, ◌∙◌}
 use Rattle.rounds.proofs.Joining.{join_alike}
 use Rattle.rounds.proofs.Numbering.joins_at.Goals as goal
-
--- A cell leads to a state, of which a row has a place.
-pub in_one_block-requires : goal.in_one_block-requires
-in_one_block-requires g c =
-    let m = c.args.self.now.machine.now in
-    let fits = few_states (g.M.Machine.means m) (g.met.M.Machine.sizes m) in
-    let one = g.met.M.Machine.closed m c.args.s c.args.i c.in-Ok.a (sym c.in-Ok.ensures) in
-    let other = g.met.M.Machine.closed m c.args.t c.args.i c.in-Ok-entry.b (sym c.in-Ok-entry.ensures) in
-    (omega arith, omega arith)
 
 -- Both are cells: the answer is the test of their keys and numbers.
 pub returns-then-alike : goal.returns-then-alike
