@@ -1,7 +1,7 @@
 -- Which way a reply goes.
 use Rattle.std.proofs.Common.{◌≡◌, ℕ, suc, ◌<◌, ◌≤◌, Bool, true, false, cond, ◌&&◌, ltb, leb, Some, None, Ok, Err, Option, IfSome, Result, refl, sym, ap, ◌∙◌, arith}
 use Rattle.std.specs.Option.{ok_or}
-use Rattle.std.proofs.lemmas.Bool.{cond-true, cond-false, cond_both, and_parts, and_from, lt-ltb, le-ltb, leb-true, ltb-true, eq-eqb, ne_eqb}
+use Rattle.std.proofs.lemmas.Bool.{cond-true, cond-false, cond_both, and_parts, and_from, lt-ltb, le-ltb, le-leb, leb-true, ltb-true, eq-eqb, ne_eqb}
 use Rattle.mealy.specs.Partitions.{block_count, parted, Settled}
 use Rattle.mealy.proofs.Below.{by_test}
 use Rattle.mealy.proofs.Rounds.{settled_from}
@@ -171,3 +171,10 @@ module _ (t : Stage) (done : t.settled ≡ true) (nexts outs : ℕ) where
 -- A refusal leaves a buffer as it was.
 pub leaves : {A E X : Type 0} (e : E) (r : Result A E) (x y : X) → Err e ≡ r → y ≡ if_ok r x y
 leaves e r x y q = ap (λ z. if_ok z x y) q
+
+-- Two states that have parted by round r, and the length of their word where there is room for it.
+pub apart_at_lem : (r j : ℕ) (done : Bool) → j ≤ r → pairs.Apart j ≡ pair_at r done j
+apart_at_lem r j done l = sym (cond-true _ _ _ (le-leb j r l))
+
+pub word_at_lem : (r size j : ℕ) → j ≤ r → j ≤ size → Ok j ≡ word_at r size j
+word_at_lem r size j l b = sym (cond-false (ltb size j) (Err (refusal.Short j)) (Ok j) (le-ltb size j b)) ∙ sym (cond-true _ _ _ (le-leb j r l))
