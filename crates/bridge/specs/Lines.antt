@@ -4,10 +4,9 @@
 --   check_refusal_line, check_line, written_line   why a machine is not sound; what its check answers, and its writing
 use Rattle.std.specs.Prelude.{ℕ, List, ◌++◌, Some, Ok, Err, codes, decimal, Option, Result}
 use Rattle.machine.specs.Causes.{cause_number}
-use Rattle.machine.specs.Checks.{check_number}
+use Rattle.machine.specs.Checks.{check_refusal_text}
 use Rattle.machine.specs.declared.Cell.{Cell}
 use Rattle.machine.specs.declared.checks.CheckRefusal.{CheckRefusal}
-use Rattle.machine.specs.declared.checks.CheckRefusal.TheVariants as unsound
 use Rattle.machine.specs.declared.faults.Cause.{Cause}
 use Rattle.sheet.specs.Texts.{refusal_text}
 use Rattle.sheet.specs.declared.answers.Refusal.{Refusal}
@@ -37,11 +36,9 @@ module _ {F : Type 0} (root : F → Cause) (words : F → Option (List ℕ)) whe
   entry_line output (Ok c) = option_append (Some (decimal c.next ++ codes " ")) (option_append (output c.output) (Some (codes "\n")))
   entry_line output (Err f) = fault_line (root f) (words f)
 
+  -- the refusal in its own words
   abbrev pub check_refusal_line : CheckRefusal F → Option (List ℕ)
-  check_refusal_line (unsound.Misfit f) =
-      option_append (Some (codes "refused " ++ (decimal (check_number (unsound.Misfit f)) ++ codes " "))) (fault_line (root f) (words f))
-  check_refusal_line (unsound.Hole s i f) =
-      option_append (Some (codes "refused " ++ (decimal (check_number (unsound.Hole s i f)) ++ (codes " state " ++ (decimal s ++ (codes " input " ++ (decimal i ++ codes " "))))))) (fault_line (root f) (words f))
+  check_refusal_line e = option_append (check_refusal_text root words e) (Some (codes "\n"))
 
   abbrev pub check_line : {U : Type 0} → Result U (CheckRefusal F) → Option (List ℕ)
   check_line (Ok u) = Some (codes "sound\n")

@@ -1,4 +1,5 @@
 //! Answers as lines of text.
+// stays: a text and what it is to tell, as listings says at its head: else each function would be a type, an impl and an `output`
 ghost use Rattle.std.specs.Prelude.{◌≡◌, ◌++◌, string_bytes, OnOk};
 ghost use Rattle.std.specs.Fmt.{AppendsText};
 ghost use Rattle.bridge.specs.Lines.{answer_line, check_line, entry_line, fault_line, map_line, check_refusal_line, written_line};
@@ -35,19 +36,7 @@ pub(crate) fn push_check_refusal<F: Fault + fmt::Display>(
 ) -> Result<(), AllocError>
     ensures { OnOk result (AppendsText (string_bytes text.old) (string_bytes text.new) (check_refusal_line F.Fault.root F.Display.output refusal.now)) }
 {
-    let number = refusal.number();
-    write!(text, "refused {number} ")?;
-    match refusal {
-        CheckRefusal::Misfit(fault) => push_fault(text, fault),
-        CheckRefusal::Hole {
-            state,
-            input,
-            fault,
-        } => {
-            write!(text, "state {state} input {input} ")?;
-            push_fault(text, fault)
-        }
-    }
+    write!(text, "{refusal}\n")
 }
 
 pub(crate) fn push_check<F: Fault + fmt::Display>(

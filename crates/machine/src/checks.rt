@@ -1,9 +1,10 @@
 //! Whether a machine has every cell that it should.
 ghost use Rattle.std.specs.Prelude.{◌≡◌, true, is_ok, Decides};
 ghost use Rattle.machine.specs.Meaning.{Sound};
-ghost use Rattle.machine.specs.Checks.{Checked, check_number};
+ghost use Rattle.machine.specs.Checks.{Checked, check_number, check_refusal_text};
 
-use crate::Machine;
+use crate::{Fault, Machine};
+use std::fmt;
 
 #[derive(Clone, Copy, PartialEq, Eq, Debug, Drop)]
 pub enum CheckRefusal<F> {
@@ -20,6 +21,32 @@ impl<F> CheckRefusal<F> {
         match self {
             CheckRefusal::Misfit(_) => 1,
             CheckRefusal::Hole { .. } => 2,
+        }
+    }
+}
+
+/// The number, the place of a hole, the cause at the bottom of the fault, and the fault in its own words.
+impl<F: Fault + fmt::Display> fmt::Display for CheckRefusal<F> {
+    ghost output = { check_refusal_text F.Fault.root F.Display.output };
+
+    fn fmt<W: fmt::Write>(&self, f: &mut fmt::Formatter<W>) -> fmt::Result {
+        let number = self.number();
+        match self {
+            CheckRefusal::Misfit(fault) => {
+                let cause = fault.cause().number();
+                write!(f, "refused {number} cause {cause}, {fault}")
+            }
+            CheckRefusal::Hole {
+                state,
+                input,
+                fault,
+            } => {
+                let cause = fault.cause().number();
+                write!(
+                    f,
+                    "refused {number} state {state} input {input} cause {cause}, {fault}"
+                )
+            }
         }
     }
 }
