@@ -159,8 +159,7 @@ pub(crate) fn play_script(heap: Global, numbers: &[u16]) -> Result<String, Troub
     let Play { mut text, .. } = play;
     match told {
         Err(Trouble::Open(refusal)) => {
-            let number = refusal.number();
-            write!(text, "refused {number}\n")?;
+            write!(text, "{refusal}\n")?;
             Ok(text)
         }
         Err(Trouble::Memory) => Err(Trouble::Memory),

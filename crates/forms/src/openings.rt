@@ -1,7 +1,7 @@
 //! Opening the stored forms: each is made here or refused.
-ghost use Rattle.std.specs.Prelude.{◌≡◌};
+ghost use Rattle.std.specs.Prelude.{◌≡◌, Some};
 ghost use Rattle.std.specs.Result.{result_map_both};
-ghost use Rattle.forms.specs.Openings.{open_number, size_test};
+ghost use Rattle.forms.specs.Openings.{open_number, open_text, size_test};
 ghost use Rattle.forms.specs.Chains.{chain_opening};
 ghost use Rattle.forms.specs.Forms.{ring_of, grid_of, chain_of};
 ghost use Rattle.forms.specs.Grids.{grid_opening};
@@ -11,6 +11,7 @@ use crate::bytes::number_at;
 use crate::rings::STAY;
 use crate::{Chain, Grid, Ring};
 use machine::{MOST_INPUTS, MOST_STATES, Output};
+use std::fmt;
 
 /// The most records of a chain.
 pub const MOST_RECORDS: u16 = 4096;
@@ -37,6 +38,15 @@ impl OpenRefusal {
         ensures { result ≡ open_number self }
     {
         self as u8
+    }
+}
+
+impl fmt::Display for OpenRefusal {
+    ghost output = { λ e. Some (open_text e) };
+
+    fn fmt<W: fmt::Write>(&self, f: &mut fmt::Formatter<W>) -> fmt::Result {
+        let number = self.number();
+        write!(f, "refused {number}")
     }
 }
 

@@ -4,7 +4,7 @@
 ghost use Rattle.std.specs.Prelude.{◌≡◌, false, is_ok, Some, IfOk, codes, string_bytes};
 ghost use Rattle.forms.specs.Chains.{chain_opening};
 ghost use Rattle.forms.specs.Forms.{chain_of};
-ghost use Rattle.reports.specs.Reports.{refused_text, unsound_text, Refused as RefusedOpening, Unsound, Described, Reported};
+ghost use Rattle.reports.specs.Reports.{unsound_text, Refused as RefusedOpening, Unsound, Described, Reported};
 
 use forms::{Chain, OpenRefusal};
 use machine::{CheckRefusal, Machine, StoredFault, check};
@@ -34,6 +34,7 @@ pub struct Report {
 }
 
 impl Report {
+    // stays: as listings' `show`; with `opened(bytes, impl FnOnce(Chain) -> Result<Report, AllocError>)` both promises would need the closure's post
     /// Opens the bytes as a chain and checks it.
     pub fn of_bytes(heap: Global, bytes: Vec<u8>) -> Result<Report, AllocError>
         ensures { IfOk result (λ x. Reported (chain_opening bytes.items) (string_bytes x.text) (is_ok x.verdict)) }
@@ -48,7 +49,7 @@ impl Report {
     pub fn of_refusal(heap: Global, refusal: OpenRefusal) -> Result<Report, AllocError>
         ensures { IfOk result (λ x. RefusedOpening refusal (string_bytes x.text) (is_ok x.verdict)) }
     {
-        Ok(Report::refused(refused_text(heap, refusal.number())?))
+        Ok(Report::refused(format!(in heap; "{refusal}\n")?))
     }
 
     /// A machine that the check refused.
@@ -76,6 +77,7 @@ impl Report {
     {
         match check(chain) {
             Ok(_) => {
+                // stays: this line here, in listings, the bridge and stacks: a type with a Display for it needs a definition, a promise and an edit
                 let states = chain.states();
                 let inputs = chain.inputs();
                 let start = chain.start();
@@ -89,20 +91,13 @@ impl Report {
     }
 }
 
-/// A refusal with nothing but its number.
-fn refused_text(heap: Global, number: u8) -> Result<String, AllocError>
-    ensures { IfOk result (λ x. string_bytes x ≡ refused_text number) }
-{
-    format!(in heap; "refused {number}\n")
-}
-
 /// A check's refusal. An opened chain is never a misfit, but the text covers every answer.
 fn unsound_text(heap: Global, refusal: &CheckRefusal<StoredFault>) -> Result<String, AllocError>
     ensures { IfOk result (λ x. string_bytes x ≡ unsound_text refusal.now) }
 {
     let number = refusal.number();
     match refusal {
-        CheckRefusal::Misfit(_) => refused_text(heap, number),
+        CheckRefusal::Misfit(_) => format!(in heap; "refused {number}\n"),
         CheckRefusal::Hole {
             state,
             input,

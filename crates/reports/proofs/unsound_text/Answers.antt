@@ -19,4 +19,4 @@ hole_line e n s i k f is number cause = rw (number, cause, is, decimal_digit 2 (
 pub returns-in-Hole : goal.returns-in-Hole
 returns-in-Hole c =
     let line = hole_line c.args.refusal.now c.number-number.result c.in-Hole.state c.in-Hole.input c.number-cause.result c.in-Hole.fault c.in-Hole.is c.number-number.ensures c.number-cause.ensures in
-    IfOk-weaker c.format.result _ _ (λ x told. told ∙ line) c.format.ensures.ok
+    IfOk-weaker c.format-in-Hole.result _ _ (λ x told. told ∙ line) c.format-in-Hole.ensures.ok
