@@ -2,7 +2,7 @@
 ghost use Rattle.std.specs.Prelude.{◌≡◌, drop, slice_index};
 
 use crate::troubles::Trouble;
-use forms::{Chain, Grid, Ring};
+use forms::{Chain, Grid, OpenRefusal, Ring};
 use machine::{Command, Output, WheelMove};
 use sheet::Table;
 use std::alloc::{AllocError, Global};
@@ -102,22 +102,29 @@ impl<'a> Script<'a> {
         Ok(Chain::open(self.bytes()?)?)
     }
 
-    pub(crate) fn grid<O: Output + Scripted>(&mut self) -> Result<Grid<O>, Trouble> {
+    /// Sizes, the start and the two lists, opened in the way that is given.
+    fn opened<
+        O: Output + Scripted,
+        F: FnOnce(u16, u16, u16, Vec<u16>, Vec<O>) -> Result<Grid<O>, OpenRefusal>,
+    >(&mut self, to_grid: F) -> Result<Grid<O>, Trouble>
+        requires { F.IsAlwaysCallable to_grid }
+    {
         let states = self.number();
         let inputs = self.number();
         let start = self.number();
         let next = self.list()?;
         let outputs = self.list()?;
-        Ok(Grid::open(states, inputs, start, next, outputs)?)
+        Ok(to_grid(states, inputs, start, next, outputs)?)
+    }
+
+    pub(crate) fn grid<O: Output + Scripted>(&mut self) -> Result<Grid<O>, Trouble> {
+        self.opened(Grid::open)
     }
 
     /// The written part of two buffers, opened as the table that they are said to be.
     pub(crate) fn table(&mut self) -> Result<Grid<Command>, Trouble> {
-        let classes = self.number();
-        let inputs = self.number();
-        let start = self.number();
-        let next = self.list()?;
-        let outputs = self.list()?;
-        Ok(open_table(Table { classes, start }, inputs, next, outputs)?)
+        self.opened(|classes, inputs, start, next, outputs| {
+            open_table(Table { classes, start }, inputs, next, outputs)
+        })
     }
 }
