@@ -58,9 +58,5 @@ impl Item for WheelMove {
 pub(crate) fn buffer<T: Item>(heap: Global, room: u16) -> Result<Vec<T>, AllocError>
     ensures { IfOk result (λ v. v.items ≡ map T.Item.at (range_with_len 0 room)) }
 {
-    let mut items = Vec::new(heap);
-    for place in 0..room {
-        items.push(T::made_at(place))?;
-    }
-    Ok(items)
+    (0..room).map(|place| T::made_at(place)).collect(heap)
 }
