@@ -53,6 +53,7 @@ impl Play<'_> {
         &mut self,
         machine: &M,
     ) -> Result<(), Trouble> {
+        // stays: the line that reports has, too; a type with a Display for it would need a definition, a promise and an edit of its own
         let states = machine.states();
         let inputs = machine.inputs();
         let start = machine.start();

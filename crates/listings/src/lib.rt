@@ -23,6 +23,7 @@ pub trait View {
         ensures { OnOk result (string_bytes text.new ≡ string_bytes text.old ++ shown self.now (lists_in reduction.now)) };
 }
 
+// stays: as `Report::of_bytes`; with a function that takes what to do with the chain, both promises would need the closure's post
 /// Opens the bytes as a chain, reduces its machine and shows it; a refusal is told in its place.
 pub fn show<V: View>(heap: Global, bytes: Vec<u8>, view: &V) -> Result<Report, AllocError>
     ensures { IfOk result (λ x. Shown (V.View.shown view.now) (chain_opening bytes.items) (string_bytes x.text) (is_ok x.verdict)) }

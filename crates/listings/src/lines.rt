@@ -30,6 +30,7 @@ impl View for Listing {
     }
 }
 
+// stays: the line that reports has, too; a type with a Display for it would need a definition, a promise and an edit of its own
 fn push_sizes(text: &mut String, reduction: &Reduction<Command>) -> Result<(), AllocError>
     ensures { OnOk result (string_bytes text.new ≡ string_bytes text.old ++ sizes_text (lists_in reduction.now)) }
 {

@@ -10,6 +10,7 @@ use runs::{Call, Line};
 use std::alloc::AllocError;
 use texts::push_each;
 
+// stays: a text and what it is to tell, here and below, as listings says at its head: else each function would be a type, an impl and an `output`
 /// Adds a line for an entry of a log: the call, what it was answered, and the buffers that such a call may write, as it left them.
 pub fn push_line(text: &mut String, line: &Line<Command>) -> Result<(), AllocError>
     ensures { OnOk result (string_bytes text.new ≡ string_bytes text.old ++ line_text (entry_at line.now)) }

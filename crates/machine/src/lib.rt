@@ -29,6 +29,7 @@ pub trait Machine {
     // what the four questions are answered by
     ghost means: { Self → Meaning Self.Out Self.Fault };
 
+    // stays: 0 states for a misfit: the rules tell a misfit by three zeros, here, of the inputs and of the start
     fn states(&self) -> u16
         ensures { result ≡ (means self.now).states };
 

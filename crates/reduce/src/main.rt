@@ -4,6 +4,7 @@
 use reports::Report;
 use std::io::Read;
 
+// stays: the mains of draw and card but for the call; `run(&rt, ..)` would be a library's function with nothing to promise of what the handle does
 fn main(rt: HostRuntime) -> anyhow::Result<()> {
     let heap = rt.alloc();
     let mut bytes = Vec::new(heap);
