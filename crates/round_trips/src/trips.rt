@@ -25,9 +25,7 @@ fn expect(holds: bool) -> Result<(), Fail>
 /// Writes a machine into a larger buffer, compares all of it with the expected chain, and opens that again.
 fn goes_round<M: Machine<Out = Command>>(machine: &M, expected: Vec<u8>) -> Result<(), Fail> {
     let mut out = [7u8; 200];
-    let Ok(count) = write_chain(machine, &mut out) else {
-        return Err("refused".into());
-    };
+    let count = write_chain(machine, &mut out).map_err(|_| Fail::new("refused"))?;
     expect(count == expected.len())?;
     for (i, byte) in out.iter().enumerate() {
         expect(*byte == expected.get(i).copied().unwrap_or(7))?;
@@ -131,9 +129,8 @@ fn a_chain_is_put_in_normal_form(rt: HostRuntime) -> Result<(), Fail> {
     let heap = rt.alloc();
     // two records for one run, the second of them first, and one that no head reaches
     let patched = [[1, 1, 0, 9, 3], [0, 0, 0, 8, 0], [0, 0, 0, 9, 0]];
-    let Ok(bytes) = normalised(heap, bytes_of(heap, &[1, 2, 0, 3, 1], &patched)?) else {
-        return Err("refused".into());
-    };
+    let chain = bytes_of(heap, &[1, 2, 0, 3, 1], &patched)?;
+    let bytes = normalised(heap, chain).map_err(|_| Fail::new("refused"))?;
     let normal = bytes_of(heap, &[1, 2, 0, 1, 1], &[[0, 1, 0, 9, 0]])?;
     assert_eq!(rt; bytes.as_slice(), normal.as_slice());
     assert_eq!(rt;
