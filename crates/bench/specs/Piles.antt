@@ -2,7 +2,8 @@
 --   beside_of, train_of, keymap_of, deep_of   what a pile of these parts means
 --   backward_keys, turns                      the keys, and the states of the ring
 --   singled, fed, turned, three_deep          the machines
-use Rattle.std.specs.Prelude.{ℕ, ◌-◌, ◌/◌, cond, List, [], ◌∷◌, nat_lt}
+use Rattle.std.specs.Prelude.{ℕ, ◌-◌, ◌/◌, cond, List, map, nat_lt}
+use Rattle.std.specs.List.{range_with_len}
 use Rattle.forms.specs.Forms.{ring_of, grid_of}
 use Rattle.forms.specs.Rings.{ring_meaning}
 use Rattle.forms.specs.declared.Grid.{Grid}
@@ -20,7 +21,7 @@ use Rattle.machine.specs.declared.faults.StoredFault.{StoredFault}
 use Rattle.machine.specs.declared.outputs.Command.{Command}
 use Rattle.bench.specs.declared.machines.Case.{Case}
 use Rattle.bench.specs.declared.machines.Case.TheVariants as case
-use Rattle.bench.specs.Tables.{up_to, measured}
+use Rattle.bench.specs.Tables.{measured}
 
 -- what each pile means
 abbrev pub beside_of : Beside (Grid Command) (Grid Command) → Meaning Command (PairFault StoredFault StoredFault)
@@ -37,7 +38,7 @@ deep_of m = keymap (train (beside_of m.part.lower) (ring_of m.part.upper)) (kept
 
 -- the inputs from the last to the first
 abbrev pub backward_keys : ℕ → List ℕ
-backward_keys k = up_to (λ i. (k - 1 - i) ∷ []) k
+backward_keys k = map (λ i. k - 1 - i) (range_with_len 0 k)
 
 -- the states of the ring under three layers: 2, or 1 where there are too few in all
 abbrev pub turns : ℕ → ℕ

@@ -66,11 +66,7 @@ fn open_chain(bytes: Vec<u8>) -> anyhow::Result<Chain>
 fn backwards(heap: Global, inputs: u16) -> Result<Vec<u16>, AllocError>
     ensures { IfOk result (λ v. v.items ≡ backward_keys inputs) }
 {
-    let mut keys = Vec::new(heap);
-    for input in 0..inputs {
-        keys.push(inputs - 1 - input)?;
-    }
-    Ok(keys)
+    (0..inputs).map(|input| inputs - 1 - input).collect(heap)
 }
 
 /// The states of the ring below, of so many in all: 2, or 1 where there are too few.

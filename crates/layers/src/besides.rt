@@ -55,6 +55,7 @@ impl<P: Machine, Q: Machine<Out = P::Out>> Machine for Beside<P, Q> {
         beside_closed (P.Machine.means m.first) (Q.Machine.means m.second)
         (P.Machine.closed m.first) (Q.Machine.closed m.second) };
 
+    // stays: three answers by counts(), as in the other layers; counts.rt says why
     fn states(&self) -> u16 {
         self.counts().map_or(0, |counts| counts.states)
     }

@@ -127,8 +127,8 @@ impl<F> From<LayerFault> for KeymapFault<F> {
     }
 }
 
-/// The fault of the first or lower part, which goes up whole, on its side, by `?`. The check does not cover
-/// `map_err(PairFault::First)`: its result names a type, the other part's fault, that its argument does not.
+// stays: `map_err(PairFault::First)` is not covered by the check: its result names a type, the other part's fault, that its argument does not
+/// The fault of the first or lower part, which goes up whole, on its side, by `?`.
 pub(crate) struct InFirst<F>(pub F);
 
 /// The same of the second or upper part.

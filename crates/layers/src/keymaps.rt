@@ -47,6 +47,7 @@ impl<P: Machine> Machine for Keymap<P> {
 
     ghost closed = { λ m. keymap_closed (P.Machine.means m.part) (kept m) (P.Machine.closed m.part) };
 
+    // stays: three answers by counts(), as in the other layers; counts.rt says why
     fn states(&self) -> u16 {
         self.counts().map_or(0, |counts| counts.states)
     }

@@ -62,6 +62,7 @@ impl<L: Machine<Out = Command>, U: Machine> Machine for Train<L, U> {
         train_closed (L.Machine.means m.lower) (U.Machine.means m.upper)
         (L.Machine.closed m.lower) (U.Machine.closed m.upper) };
 
+    // stays: three answers by counts(), as in the other layers; counts.rt says why
     fn states(&self) -> u16 {
         self.counts().map_or(0, |counts| counts.states)
     }

@@ -173,6 +173,7 @@ impl<M: Machine> Sheet<M> {
         Ok(j)
     }
 
+    // stays: two buffers, not one of cells: a refusal tells which of the two is too short
     /// Writes the smallest equivalent machine: next classes and outputs, class c at input i at place c × inputs + i.
     pub fn table(&self, next: &mut [u16], outputs: &mut [M::Out]) -> Result<Table, Refusal>
         ensures answer { result ≡ table_reply (stage_of self.now) (length next.old) (length outputs.old) }

@@ -11,7 +11,7 @@ use machine::{Machine, Output};
 /// A machine, and what is known of its states so far.
 /// Row j holds the block number of each state in the partition P j; `parts` counts the blocks of the last one taken.
 /// All of it is a function of the machine's meaning, of `rounds` and of `settled`.
-// stays: an array beside `rounds`: `rows: ArrayVec<[u8; 128], 128>` can be empty, so `rows.last()` and `push` would have a case that never comes
+// stays: an array beside `rounds`: with an `ArrayVec<[u8; 128], 128>` all of `kept` and each read `rows[j]` would need a fact about its length
 #[derive(Drop)]
 pub struct Sheet<M: Machine> {
     machine: M,

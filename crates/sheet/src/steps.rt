@@ -21,6 +21,7 @@ pub(crate) fn copy_front(row: &[u8; 128], n: usize, out: &mut [u16])
     requires { (n ≤ 128) × (n ≤ length out.old) }
     ensures { out.new ≡ take n row.now ++ drop n out.old }
 {
+    // stays: row[s] by its place, since the proof knows nothing of what `iter_mut().zip(&row[..n])` writes
     for (s, place) in out[..n].iter_mut().enumerate() {
         *place = u16::from(row[s]);
     }

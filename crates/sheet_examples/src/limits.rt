@@ -36,9 +36,7 @@ fn moves_within_a_step_are_alike(rt: HostRuntime) -> Result<(), Fail> {
 #[test]
 fn a_hole_is_refused_by_every_call(rt: HostRuntime) -> Result<(), Fail> {
     let heap = rt.alloc();
-    let next = [1, 65535].to_vec(heap)?;
-    let outputs = vec![in heap; Command { number: 7 }; 2]?;
-    let mut sheet = Sheet::open(Grid::open(2, 1, 0, next, outputs)?);
+    let mut sheet = Sheet::open(grid(heap, 2, 1, 0, &[(1, 7), (65535, 7)])??);
     let mut numbers = [9u16; 2];
     let mut cells = [9u16; 2];
     let mut commands = [Command { number: 9 }; 2];
@@ -59,9 +57,7 @@ fn a_hole_is_refused_by_every_call(rt: HostRuntime) -> Result<(), Fail> {
 #[test]
 fn one_state_settles_at_once(rt: HostRuntime) -> Result<(), Fail> {
     let heap = rt.alloc();
-    let next = [0].to_vec(heap)?;
-    let outputs = vec![in heap; Command { number: 7 }; 1]?;
-    let mut sheet = Sheet::open(Grid::open(1, 1, 0, next, outputs)?);
+    let mut sheet = Sheet::open(grid(heap, 1, 1, 0, &[(0, 7)])??);
     assert_eq!(rt; sheet.round(), Ok(Round::Settled { count: 1 }));
     let mut cells = [9u16; 1];
     let mut commands = [Command { number: 9 }; 1];
@@ -152,9 +148,7 @@ fn a_misfit_is_opened_and_refused(rt: HostRuntime) -> Result<(), Fail> {
 #[test]
 fn a_hole_is_told_before_a_short_buffer(rt: HostRuntime) -> Result<(), Fail> {
     let heap = rt.alloc();
-    let next = [1, 65535].to_vec(heap)?;
-    let outputs = vec![in heap; Command { number: 7 }; 2]?;
-    let sheet = Sheet::open(Grid::open(2, 1, 0, next, outputs)?);
+    let sheet = Sheet::open(grid(heap, 2, 1, 0, &[(1, 7), (65535, 7)])??);
     let mut none = vec![in heap; 9u16; 0]?;
     let mut commands = vec![in heap; Command { number: 9 }; 0]?;
     assert_eq!(rt; sheet.map(&mut none), Err(Refusal::Unsound));

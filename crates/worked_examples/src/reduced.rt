@@ -1,6 +1,7 @@
 //! The plain listing of a reduced machine, or the line of a refusal.
 use crate::chains::{CHANGES, changed};
 use listings::{Listing, show};
+use samples::bytes_of;
 use std::alloc::Global;
 use std::test::Fail;
 
@@ -34,10 +35,7 @@ fn one_class_has_nothing_apart(rt: HostRuntime) -> Result<(), Fail> {
     let heap = rt.alloc();
     // two states that lead to each other with command 7
     let numbers = [2, 1, 0, 2, 1, 2, 0, 0, 1, 7, 0, 0, 0, 0, 7, 0];
-    let mut bytes = Vec::new(heap);
-    for n in numbers {
-        bytes.extend_from_slice(&u16::to_le_bytes(n))?;
-    }
+    let bytes = bytes_of(heap, &numbers, &[])?;
     let shown = show(heap, bytes, &Listing)?;
     assert_eq!(rt;
         shown.text.as_str(),

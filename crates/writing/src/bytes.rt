@@ -2,6 +2,7 @@
 ghost use Rattle.std.specs.Prelude.{◌≡◌, ◌+◌, ◌*◌, ◌<◌, ◌≤◌, length};
 ghost use Rattle.writing.specs.Bytes.{put_at, puts};
 
+// stays: two places by index, and one by one below: the proof knows nothing of what `chunks_exact_mut(2)` and a zip of it write
 /// Writes a number at a place, low byte first.
 fn put(out: &mut [u8], place: usize, number: u16)
     requires { 2 * place + 1 < length out.old }

@@ -15,6 +15,7 @@ struct Run {
     to: u16,
 }
 
+// stays: a record as it is made, with 0 for no link as the format has it; the one that forms reads is five numbers and private to it
 /// A run, its cell, and the number of the record behind it, or 0.
 #[derive(Clone, Copy)]
 struct Record {
