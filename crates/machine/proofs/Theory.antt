@@ -1,5 +1,5 @@
 -- A sound meaning, by the test and by the record, and the machine of the theory that it is.
-use Rattle.std.proofs.Common.{◌≡◌, ℕ, ◌<◌, ◌≤◌, Bool, true, false, ltb, List, ℤ, is_ok, Ok, Err, Decides, Result, sym, refl, ⊎_elim, arith}
+use Rattle.std.proofs.Common.{◌≡◌, ℕ, ◌<◌, ◌≤◌, true, ltb, List, ℤ, is_ok, Ok, Err, Decides, Result, sym, refl, ⊎_elim, arith}
 use Rattle.machine.specs.Meaning as meaning
 use Rattle.machine.specs.Meaning.{Meaning, Fits, Misfit, Sizes, Filled, Sound}
 use Rattle.machine.specs.Theory.{next_of, mealy_of, filled_row, sound_by}
@@ -8,12 +8,6 @@ use Rattle.mealy.specs.Below.{every}
 use Rattle.mealy.specs.Mealy as theory
 use Rattle.mealy.proofs.Below.{every_at, every_from}
 use Rattle.std.proofs.lemmas.Bool.{and_parts, and_from, lt-ltb, ltb-true, true≢false}
-
--- Two tests of one fact agree.
-pub tests_agree : (b c : Bool) (P : Type 0) → Decides b P → Decides c P → b ≡ c
-tests_agree true c P f g = sym (g.1 (f.0 refl))
-tests_agree false true P f g = f.1 (g.0 refl)
-tests_agree false false P f g = refl
 
 module _ {O F : Type 0} (m : Meaning O F) where
   -- No meaning is larger than the panel's limits.

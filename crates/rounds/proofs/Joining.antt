@@ -3,16 +3,16 @@ use Rattle.std.proofs.Common.{◌≡◌, ℕ, Bool, true, ◌&&◌, eqb, List, g
 use Rattle.machine.specs.Meaning.{Meaning}
 use Rattle.machine.specs.Theory.{next_of, key_of}
 use Rattle.machine.specs.declared.Cell.{Cell}
-use Rattle.machine.proofs.Theory.{tests_agree}
 use Rattle.mealy.specs.Keys.{same_key}
 use Rattle.mealy.proofs.Below.{every_at, every_from}
 use Rattle.mealy.proofs.Keys.{same_key_true, key_same}
 use Rattle.std.proofs.lemmas.Bool.{and_parts, and_from, eq-eqb, eqb-true, true≢false}
+use Rattle.std.proofs.lemmas.Bool.Decides.{same_from_decides}
 use Rattle.rounds.specs.Joining.{cells_join, joins_at, joins, finer}
 
 -- What decides that two keys are equal is the test of the keys.
 pub alike_is : (r : Bool) (x y : List ℤ) → Decides r (x ≡ y) → r ≡ same_key x y
-alike_is r x y h = tests_agree r (same_key x y) (x ≡ y) h (same_key_true x y, key_same x y)
+alike_is r x y h = same_from_decides r (same_key x y) h (same_key_true x y, key_same x y)
 
 module _ {O F : Type 0} (key : O → List ℤ) (prev : List ℕ) where
   -- Cells join by their keys and numbers,
