@@ -53,6 +53,7 @@ impl fmt::Display for Form {
 }
 
 impl Form {
+    // stays: handle and measured machine, here and below: of the one the heap and the clock are asked, and the other makes the machine
     /// Makes a machine of this form, which is not timed, and settles it.
     fn settled(self, rt: &HostRuntime, of: Measured) -> anyhow::Result<Settled> {
         let heap = rt.alloc();

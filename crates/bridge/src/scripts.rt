@@ -60,7 +60,7 @@ impl<'a> Script<'a> {
         self.heap
     }
 
-    // stays: a script that ends early goes on with 0, by the rule that other programs write it by
+    // stays: bridge_play answers every script, and one that ends early goes on with 0; an Option would end in a refusal that C does not know
     /// The next number; 0 past the end.
     pub(crate) fn number(&mut self) -> u16
         ensures value { result ≡ slice_index self.old.numbers.rest.now 0 }

@@ -9,7 +9,7 @@ mod tests {
     use forms::Ring;
     use layers::{Beside, Keymap, KeymapFault, LayerFault, PairFault, Train};
     use machine::faults::Fault as _;
-    use machine::{Cause, CheckRefusal, Fault, Machine, StoredFault};
+    use machine::{Cause, CheckRefusal, Fault, Machine, OwnFault, StoredFault};
     use samples::{cell, fault};
     use std::test::Fail;
 
@@ -26,11 +26,7 @@ mod tests {
     fn one_state_too_many(rt: HostRuntime) -> Result<(), Fail> {
         let both = Beside::new(Ring::open(64)?, Ring::open(65)?);
         assert_eq!(rt; both.states(), 0);
-        let own = PairFault::Own(LayerFault {
-            cause: Cause::Misfit,
-            state: 0,
-            input: 0,
-        });
+        let own = PairFault::Own(LayerFault::own(Cause::Misfit, 0, 0));
         assert_eq!(rt; machine::check(&both), Err(CheckRefusal::Misfit(own)));
         Ok(())
     }

@@ -1,5 +1,6 @@
 //! A chain of six states, and what becomes of it when one of its numbers is another.
 use reports::Report;
+use samples::bytes_of;
 use six_states::{FRONT, RECORDS};
 use std::alloc::Global;
 use std::test::Fail;
@@ -27,27 +28,12 @@ pub(crate) const CHANGES: [(usize, u16, &str); 17] = [
 
 /// The chain's bytes with another number at a place.
 pub(crate) fn changed(heap: Global, place: usize, number: u16) -> Result<Vec<u8>, Fail> {
-    let mut bytes = Vec::new(heap);
-    for old in FRONT {
-        add(&mut bytes, old, place, number)?;
-    }
-    for record in RECORDS {
-        for old in record {
-            add(&mut bytes, old, place, number)?;
-        }
+    let mut bytes = bytes_of(heap, &FRONT, &RECORDS)?;
+    let from = place.saturating_mul(2);
+    for (old, new) in bytes.iter_mut().skip(from).zip(number.to_le_bytes()) {
+        *old = new;
     }
     Ok(bytes)
-}
-
-/// Adds the next number of a chain, or the other one at its place.
-fn add(bytes: &mut Vec<u8>, old: u16, place: usize, number: u16) -> Result<(), Fail> {
-    let n = if bytes.len() / 2 == place {
-        number
-    } else {
-        old
-    };
-    bytes.extend_from_slice(&n.to_le_bytes())?;
-    Ok(())
 }
 
 #[test]
