@@ -21,6 +21,7 @@ impl<P: Machine, Q: Machine<Out = P::Out>> Beside<P, Q> {
         Beside { first, second }
     }
 
+    #[inline]
     fn counts(&self) -> Option<Counts>
         ensures { let first = P.Machine.means self.now.first in
             let second = Q.Machine.means self.now.second in
@@ -28,12 +29,13 @@ impl<P: Machine, Q: Machine<Out = P::Out>> Beside<P, Q> {
     {
         let first = self.first.states();
         let second = self.second.states();
+        // a part that is a misfit is asked for nothing else, since each question goes down to the bottom of its layers
+        if first == 0 || second == 0 {
+            return None;
+        }
         let states = first + second;
         let inputs = self.first.inputs();
-        let fits = first != 0
-            && second != 0
-            && inputs == self.second.inputs()
-            && states <= MOST_STATES;
+        let fits = inputs == self.second.inputs() && states <= MOST_STATES;
         fits.then_some(Counts { states, inputs })
     }
 }
@@ -68,20 +70,20 @@ impl<P: Machine, Q: Machine<Out = P::Out>> Machine for Beside<P, Q> {
         self.counts().map_or(0, |_| self.first.start())
     }
 
+    #[inline]
     fn entry(&self, state: u16, input: u16) -> Result<Cell<P::Out>, PairFault<P::Fault, Q::Fault>> {
         let Some(counts) = self.counts() else {
             return Err(pair_misfit(&self.first, &self.second, state, input));
         };
         counts.test(state, input)?;
         let shift = self.first.states();
-        Ok(if state < shift {
-            self.first.entry(state, input).map_err(InFirst)?
-        } else {
-            let moved = self.second.entry(state - shift, input).map_err(InSecond)?;
-            Cell {
-                next: shift + moved.next,
-                ..moved
-            }
+        if state < shift {
+            return Ok(self.first.entry(state, input).map_err(InFirst)?);
+        }
+        let moved = self.second.entry(state - shift, input).map_err(InSecond)?;
+        Ok(Cell {
+            next: shift + moved.next,
+            ..moved
         })
     }
 }

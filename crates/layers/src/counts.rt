@@ -14,7 +14,9 @@ pub(crate) struct Counts {
 }
 
 impl Counts {
+    // a hint, here and in the layers: these are asked at every cell
     /// Causes 1 and 2, which a layer finds itself, before it asks a part.
+    #[inline]
     pub(crate) fn test(self, state: u16, input: u16) -> Result<(), LayerFault>
         ensures { result ≡ bounds_test self.states self.inputs state input }
     {

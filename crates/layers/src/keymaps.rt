@@ -23,6 +23,7 @@ impl<P: Machine> Keymap<P> {
         Keymap { part, keys: copy }
     }
 
+    #[inline]
     fn counts(&self) -> Option<Counts>
         ensures { let part = P.Machine.means self.now.part in
             let keys = kept self.now in

@@ -21,6 +21,7 @@ impl<L: Machine<Out = Command>, U: Machine> Train<L, U> {
         Train { lower, upper }
     }
 
+    #[inline]
     fn counts(&self) -> Option<Counts>
         ensures { let lower = L.Machine.means self.now.lower in
             let upper = U.Machine.means self.now.upper in
@@ -30,7 +31,8 @@ impl<L: Machine<Out = Command>, U: Machine> Train<L, U> {
         let upper = self.upper.states();
         let states = lower * upper;
         let fits = lower != 0 && upper != 0 && states <= MOST_STATES;
-        fits.then_some(Counts {
+        // parts that do not go together are asked for nothing else, since each question goes down to the bottom of the layers
+        fits.then(|| Counts {
             states,
             inputs: self.lower.inputs(),
         })
@@ -77,6 +79,7 @@ impl<L: Machine<Out = Command>, U: Machine> Machine for Train<L, U> {
         })
     }
 
+    #[inline]
     fn entry(&self, state: u16, input: u16) -> Result<Cell<U::Out>, PairFault<L::Fault, U::Fault>> {
         let Some(counts) = self.counts() else {
             return Err(pair_misfit(&self.lower, &self.upper, state, input));
