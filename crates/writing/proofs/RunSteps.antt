@@ -1,11 +1,11 @@
 -- Runs, input by input.
-use Rattle.std.proofs.Common.{◌≡◌, ℕ, zero, suc, ◌+◌, ◌*◌, ◌≤◌, true, false, List, [], ◌∷◌, ◌++◌, length, sym, refl, ap, ◌∙◌, inl, inr, append_assoc, append-nil, arith}
+use Rattle.std.proofs.Common.{◌≡◌, ℕ, zero, suc, ◌+◌, ◌*◌, ◌≤◌, true, false, List, [], ◌∷◌, length, sym, refl, ap, ◌∙◌, inl, inr, arith}
 use Rattle.std.proofs.lemmas.Bool.{cases_Bool, cond-true, cond-false}
 use Rattle.std.proofs.lemmas.Bool.Decides.{nat_tests}
 use Rattle.machine.specs.declared.Cell.{Cell}
 use Rattle.machine.specs.declared.outputs.Command.{Command}
 use Rattle.writing.specs.Bytes.{puts}
-use Rattle.writing.specs.Runs.{ends_run, run, runs}
+use Rattle.writing.specs.Runs.{ends_run, run, runs, row_runs}
 use Rattle.writing.specs.Written.{link_to, records, place_of}
 use Rattle.writing.specs.declared.rows.Run.{Run}
 use Rattle.writing.proofs.Puts.{puts_append}
@@ -21,6 +21,22 @@ module _ (row : ℕ → Cell Command) (k : ℕ) where
 
   pub runs_end : (a i l m : ℕ) → l ≡ suc m → ends_run row k i ≡ true → runs row k a i l ≡ run a i ∷ runs row k (i + 1) (i + 1) m
   runs_end a i l m e h = ap (runs row k a i) e ∙ cond-true _ _ _ h
+
+  -- how many there are does not depend on where the first began
+  runs_length : (a b i l : ℕ) → length (runs row k a i l) ≡ length (runs row k b i l)
+  runs_length a b i zero = refl
+  runs_length a b i (suc l) =
+      elim (cases_Bool (ends_run row k i)) [
+        | inl h ↦ ap length (runs_end a i (suc l) l refl h) ∙ sym (ap length (runs_end b i (suc l) l refl h))
+        | inr h ↦ ap length (runs_on a i (suc l) l refl h)
+            ∙ (runs_length a b (i + 1) l ∙ sym (ap length (runs_on b i (suc l) l refl h)))
+      ]
+
+  pub count_on : (a i l m : ℕ) → l ≡ suc m → ends_run row k i ≡ false → length (runs row k a i l) ≡ length (runs row k a (i + 1) m)
+  count_on a i l m e h = ap length (runs_on a i l m e h)
+
+  pub count_end : (a i l m : ℕ) → l ≡ suc m → ends_run row k i ≡ true → length (runs row k a i l) ≡ 1 + length (runs row k a (i + 1) m)
+  count_end a i l m e h = omega (arith, ap length (runs_end a i l m e h), runs_length (i + 1) a (i + 1) m)
 
   -- one for each input at most
   pub runs_le : (a i l : ℕ) → length (runs row k a i l) ≤ l
@@ -42,41 +58,52 @@ module _ (row : ℕ → Cell Command) (k : ℕ) where
         | inr h ↦ ap (link_to r) (runs_on a i (suc (suc l)) (suc l) refl h) ∙ runs_some a (i + 1) l r (omega arith)
       ]
 
-  -- the runs xs were found before the run that began at a and has come to i, and zs are all
-  pub found_on : (a i l m : ℕ) (xs zs : List Run) → l ≡ suc m → ends_run row k i ≡ false
-      → xs ++ runs row k a i l ≡ zs → xs ++ runs row k a (i + 1) m ≡ zs
-  found_on a i l m xs zs e h f = ap (λ u. xs ++ u) (sym (runs_on a i l m e h)) ∙ f
+  -- the link of a record, by the inputs behind its run
+  pub link_none : (a i l r : ℕ) → l ≡ 0 → 0 ≡ link_to r (runs row k a i l)
+  link_none a i l r e = sym (ap (λ n. link_to r (runs row k a i n)) e)
 
-  pub found_end : (a i l m : ℕ) (xs ys zs : List Run) → l ≡ suc m → ends_run row k i ≡ true → ys ≡ xs ++ run a i ∷ []
-      → xs ++ runs row k a i l ≡ zs → ys ++ runs row k (i + 1) (i + 1) m ≡ zs
-  found_end a i l m xs ys zs e h y f =
+  pub link_some : (a i l m r : ℕ) → l ≡ suc m → i + l ≡ k → r ≡ link_to r (runs row k a i l)
+  link_some a i l m r e h = sym (ap (λ n. link_to r (runs row k a i n)) e ∙ runs_some a i m r (omega (arith, e, h)))
+
+-- Where the writing of a state's records stands: the run from a has come to i, l inputs follow, and r is the next record.
+-- bz is the buffer as it was, and bs as it is.
+pub record Standing (row : ℕ → Cell Command) (k n first : ℕ) (bz bs : List ℕ) (a i l r : ℕ) : Type 0 where
+  pub begun : a ≤ i
+  pub risen : first ≤ r
+  pub counted : r + length (runs row k a i l) ≡ first + length (row_runs row k)
+  pub left : puts bs (place_of n r) (records row r (runs row k a i l)) ≡ puts bz (place_of n first) (records row first (row_runs row k))
+
+pub stands_as : (row : ℕ → Cell Command) (k n first : ℕ) (bz bs bt : List ℕ) (a b i l r t : ℕ) → bt ≡ bs → b ≡ a → t ≡ r
+    → Standing row k n first bz bs a i l r → Standing row k n first bz bt b i l t
+stands_as row k n first bz bs bt a b i l r t x y z st = rw (x, y, z) st
+
+module _ (row : ℕ → Cell Command) (k n first : ℕ) (bz bs : List ℕ) (a i l m r : ℕ)
+    (e : l ≡ suc m) (st : Standing row k n first bz bs a i l r) where
+  pub stands_on : ends_run row k i ≡ false → Standing row k n first bz bs a (i + 1) m r
+  stands_on h =
+      let f = runs_on row k a i l m e h in
+      let g = ap length f in
+      record {
+        begun = omega (arith, st.begun);
+        risen = st.risen;
+        counted = omega (arith, st.counted);
+        left = sym (ap (λ u. puts bs (place_of n r) (records row r u)) f) ∙ st.left;
+      }
+
+  pub stands_end : (bt : List ℕ) (p z : ℕ) (c : Cell Command) → ends_run row k i ≡ true → 1 ≤ first
+      → c ≡ row a → p ≡ place_of n r
+      → z ≡ link_to (r + 1) (runs row k (i + 1) (i + 1) m)
+      → bt ≡ puts bs p (a ∷ i ∷ c.next ∷ c.output.number ∷ z ∷ [])
+      → Standing row k n first bz bt (i + 1) (i + 1) m (r + 1)
+  stands_end bt p z c h o d q y w =
+      let f = runs_end row k a i l m e h in
+      let g = ap length f in
       let rest = runs row k (i + 1) (i + 1) m in
-      ap (λ u. u ++ rest) y ∙ (append_assoc xs (run a i ∷ []) rest ∙ (ap (λ u. xs ++ u) (sym (runs_end a i l m e h)) ∙ f))
-
-  pub found_all : (a i l : ℕ) (xs zs : List Run) → l ≡ 0 → xs ++ runs row k a i l ≡ zs → xs ≡ zs
-  found_all a i l xs zs e f = sym (append-nil xs) ∙ (ap (λ n. xs ++ runs row k a i n) (sym e) ∙ f)
-
--- the link of a record, by how many follow it
-pub link_last : (r : ℕ) (xs : List Run) → length xs ≡ 0 → link_to r xs ≡ 0
-link_last r [] e = refl
-link_last r (x ∷ xs) e = absurd (omega (arith, e))
-
-pub link_next : (r : ℕ) (xs : List Run) → 1 ≤ length xs → link_to r xs ≡ r
-link_next r [] h = absurd (omega (arith, h))
-link_next r (x ∷ xs) h = refl
-
--- one record more: those of xs are to be written from record r on, and t is the next
-pub record_more : (row : ℕ → Cell Command) (n r t z : ℕ) (bs bt : List ℕ) (x : Run) (c : Cell Command) (xs ys : List Run)
-    → t ≡ r + 1 → xs ≡ x ∷ ys → 1 ≤ r → z ≡ link_to (r + 1) ys → c ≡ row x.from
-    → bt ≡ puts bs (place_of n r) (x.from ∷ x.to ∷ c.next ∷ c.output.number ∷ z ∷ [])
-    → puts bt (place_of n t) (records row t ys) ≡ puts bs (place_of n r) (records row r xs)
-record_more row n r t z bs bt x c xs ys f e h y q w =
-    let here : List ℕ = x.from ∷ x.to ∷ (row x.from).next ∷ (row x.from).output.number ∷ link_to (r + 1) ys ∷ [] in
-    let behind = puts_append bs (place_of n r) (place_of n (r + 1)) here (records row (r + 1) ys) (omega (arith, h)) in
-    cc (behind, f, e, y, q, w)
-
--- and none
-pub records_done : (row : ℕ → Cell Command) (n first r : ℕ) (bz bs : List ℕ) (all rest zs : List Run) → rest ≡ [] → all ≡ zs
-    → puts bs (place_of n r) (records row r rest) ≡ puts bz (place_of n first) (records row first all)
-    → bs ≡ puts bz (place_of n first) (records row first zs)
-records_done row n first r bz bs all rest zs e f h = cc (e, f, h)
+      let here : List ℕ = a ∷ i ∷ (row a).next ∷ (row a).output.number ∷ link_to (r + 1) rest ∷ [] in
+      let behind = puts_append bs (place_of n r) (place_of n (r + 1)) here (records row (r + 1) rest) (omega (arith, st.risen)) in
+      record {
+        begun = omega arith;
+        risen = omega (arith, st.risen);
+        counted = omega (arith, st.counted);
+        left = cc (behind, f, d, q, y, w, st.left);
+      }

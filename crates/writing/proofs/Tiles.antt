@@ -1,12 +1,12 @@
 -- The runs of a row are its longest runs.
-use Rattle.std.proofs.Common.{◌≡◌, ℕ, zero, suc, ◌+◌, ◌<◌, ◌≤◌, true, false, eqb, List, [], ◌∷◌, length, get_or, sym, refl, ap, ◌∙◌, subst, inl, inr, arith}
+use Rattle.std.proofs.Common.{◌≡◌, ℕ, zero, suc, ◌+◌, ◌<◌, ◌≤◌, true, false, eqb, List, [], ◌∷◌, sym, refl, ap, ◌∙◌, subst, inl, inr, arith}
 use Rattle.std.proofs.lemmas.Bool.{cases_Bool, cases_lt, and_parts, both_ways, eqb-true}
 use Rattle.std.proofs.lemmas.Bool.Decides.{nat_tests}
 use Rattle.machine.specs.declared.Cell.{Cell}
 use Rattle.machine.specs.declared.outputs.Command.{Command}
 use Rattle.writing.specs.Runs.{equal_cells, ends_run, runs, row_runs}
 use Rattle.writing.specs.declared.rows.Run.{Run}
-use Rattle.writing.proofs.RunSteps.{runs_on, runs_end, runs_le}
+use Rattle.writing.proofs.RunSteps.{runs_on, runs_end}
 
 -- The runs cover the inputs from a to k - 1 in order: each begins where the one before ends, its cells are equal, and the
 -- cell behind it is another one.
@@ -66,14 +66,3 @@ module _ (row : ℕ → Cell Command) (k : ℕ) where
 
   pub row_tiled : 1 ≤ k → Tiled row k 0 (row_runs row k)
   row_tiled h = tiled 0 0 k (omega arith) (omega arith) (λ w. omega arith) (λ x u v w. let q : x ≡ 0 = omega arith in ap row q)
-
-  -- each run of them begins below their end
-  run_below : (a j : ℕ) (xs : List Run) (d : Run) → Tiled row k a xs → j < length xs → (get_or xs j d).from < k
-  run_below a j [] d t h = absurd (omega (arith, h))
-  run_below a zero (x ∷ xs) d t h = omega (arith, t.0, t.1, t.2)
-  run_below a (suc j) (x ∷ xs) d t h = run_below (x.to + 1) j xs d t.5 (omega (arith, h))
-
-  pub begins_below : (j : ℕ) (xs : List Run) (d : Run) → xs ≡ row_runs row k → j < length xs → (get_or xs j d).from < k
-  begins_below j xs d e h =
-      let some : 1 ≤ k = omega (arith, h, ap length e, runs_le row k 0 0 k) in
-      run_below 0 j xs d (subst (Tiled row k 0) (sym e) (row_tiled some)) h

@@ -24,10 +24,12 @@ impl<'a, M: Machine<Out = Command>> Plan<'a, M> {
     {
         let mut heads = ArrayVec::new();
         let mut records = 0;
+        let mut row = Row::default();
         for state in 0..machine.states() {
             // records count from 1, since 0 is no record
             heads.push(records + 1);
-            records += Row::of(machine, state).count_runs();
+            row.read(machine, state);
+            records += row.count_runs();
         }
         Plan {
             machine,
@@ -50,8 +52,10 @@ impl<'a, M: Machine<Out = Command>> Plan<'a, M> {
             (all_rows (M.Machine.means self.now.machine.now)) }
     {
         let states = self.machine.states();
+        let mut row = Row::default();
         for (state, head) in self.heads.iter().enumerate() {
-            Row::of(self.machine, state as u16).put(out, states, *head);
+            row.read(self.machine, state as u16);
+            row.put(out, states, *head);
         }
     }
 

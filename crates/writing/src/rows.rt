@@ -9,7 +9,7 @@ use arrayvec::ArrayVec;
 use machine::{Cell, Command, Machine};
 
 /// The inputs `from` to `to`.
-#[derive(Clone, Copy, Default)]
+#[derive(Clone, Copy)]
 struct Run {
     from: u16,
     to: u16,
@@ -56,7 +56,7 @@ fn cell_or_none<M: Machine<Out = Command>>(machine: &M, state: u16, input: u16) 
 }
 
 /// A state's cells, input by input.
-#[derive(Drop)]
+#[derive(Drop, Default)]
 pub(crate) struct Row {
     cells: ArrayVec<Cell<Command>, 32>,
 }
@@ -64,15 +64,16 @@ pub(crate) struct Row {
 impl Row {
     ghost use Rattle.writing.specs.Rows.{cells_in, runs_in};
 
-    pub(crate) fn of<M: Machine<Out = Command>>(machine: &M, state: u16) -> Row
-        ensures inputs { length result.cells.items ≡ (M.Machine.means machine.now).inputs }
-        ensures cells { cells_in result ≡ row_of (M.Machine.means machine.now) state }
+    // in place, since a row that is handed out is copied whole, blanks and all
+    /// Takes the cells of a state, in place of those before.
+    pub(crate) fn read<M: Machine<Out = Command>>(&mut self, machine: &M, state: u16)
+        ensures inputs { length self.new.cells.items ≡ (M.Machine.means machine.now).inputs }
+        ensures cells { cells_in self.new ≡ row_of (M.Machine.means machine.now) state }
     {
-        let mut cells = ArrayVec::new();
+        self.cells = ArrayVec::new();
         for input in 0..machine.inputs() {
-            cells.push(cell_or_none(machine, state, input));
+            self.cells.push(cell_or_none(machine, state, input));
         }
-        Row { cells }
     }
 
     /// Whether a longest run ends at an input.
@@ -84,28 +85,17 @@ impl Row {
         input == last || self.cells[input] != self.cells[input + 1]
     }
 
-    /// The longest runs, in input order.
-    fn runs(&self) -> ArrayVec<Run, 32>
-        ensures { result.items ≡ runs_in self.now }
-    {
-        let mut runs = ArrayVec::new();
-        let mut from = 0;
-        for to in 0..self.cells.len() {
-            if self.ends_run(to) {
-                runs.push(Run {
-                    from: from as u16,
-                    to: to as u16,
-                });
-                from = to + 1;
-            }
-        }
-        runs
-    }
-
+    // stays: here and in `put` the runs as they end; by a list of them, made for each, a chain of 128 x 1 takes three times as long to write
     pub(crate) fn count_runs(&self) -> u16
         ensures { result ≡ length (runs_in self.now) }
     {
-        self.runs().len() as u16
+        let mut count = 0;
+        for input in 0..self.cells.len() {
+            if self.ends_run(input) {
+                count += 1;
+            }
+        }
+        count
     }
 
     /// Writes the records of the runs, the first of which is numbered `first`.
@@ -115,17 +105,25 @@ impl Row {
         requires room { 2 * (place_of states first + 5 * length (runs_in self.now)) ≤ length out.old }
         ensures { out.new ≡ puts out.old (place_of states first) (records (cells_in self.now) first (runs_in self.now)) }
     {
-        let runs = self.runs();
-        for (i, run) in runs.iter().enumerate() {
-            let number = first + i as u16;
-            // only the last record of a state has no other behind it
-            let link = if i + 1 == runs.len() { 0 } else { number + 1 };
-            let record = Record {
-                run: *run,
-                cell: self.cells[run.from as usize],
-                link,
-            };
-            record.put(out, record_place(states, number));
+        let inputs = self.cells.len();
+        let mut number = first;
+        let mut from = 0;
+        for to in 0..inputs {
+            if self.ends_run(to) {
+                // only the last record of a state has no other behind it
+                let link = if to + 1 == inputs { 0 } else { number + 1 };
+                let record = Record {
+                    run: Run {
+                        from: from as u16,
+                        to: to as u16,
+                    },
+                    cell: self.cells[from],
+                    link,
+                };
+                record.put(out, record_place(states, number));
+                number += 1;
+                from = to + 1;
+            }
         }
     }
 }

@@ -24,7 +24,7 @@ overflow_add-records-in-loop-state g c =
     let at = c.args.machine.now in
     let m = g.M.Machine.means at in
     let s = c.loop-state.state in
-    let n = count_is m s _ _ (cells_in c.of.result) c.of.ensures.cells c.of.ensures.inputs c.count_runs-records.ensures in
+    let n = count_is m s _ _ (cells_in c.read.new.self) c.read.ensures.cells c.read.ensures.inputs c.count_runs-records.ensures in
     let few = few_before m (g.met.M.Machine.sizes at) m.states (omega arith) in
     let h : c.loop-state.records + c.count_runs-records.result < 65536 =
     omega (arith, n, before_part m s m.states (omega arith), few) in

@@ -9,7 +9,7 @@ put-requires g c =
     let m = g.M.Machine.means at in
     let s = c.loop-state.state in
     let h = head_in m s _ (c.deref-head-items.ensures.0 ∙ c.args.self.now.heads_are) (omega arith) in
-    let n = count_is m s _ _ (cells_in c.of.result) c.of.ensures.cells c.of.ensures.inputs refl in
+    let n = count_is m s _ _ (cells_in c.read.new.self) c.read.ensures.cells c.read.ensures.inputs refl in
     let part = before_part m s m.states h.0 in
     let few = few_before m (g.met.M.Machine.sizes at) m.states (omega arith) in
     record {
@@ -23,9 +23,9 @@ loop-state-preserved g c =
     let m = g.M.Machine.means c.args.self.now.machine.now in
     let s = c.loop-state.state in
     let h = head_in m s _ (c.deref-head-items.ensures.0 ∙ c.args.self.now.heads_are) (omega arith) in
-    rows_more m s (length c.of.result.cells.items) c.states-states.result _ (cells_in c.of.result)
+    rows_more m s (length c.read.new.self.cells.items) c.states-states.result _ (cells_in c.read.new.self)
     c.args.out.now c.loop-state.out c.put.new.out
-    c.of.ensures.cells c.of.ensures.inputs h.1 c.loop-state.invariant c.put.ensures
+    c.read.ensures.cells c.read.ensures.inputs h.1 c.loop-state.invariant c.put.ensures
 
 pub returns : goal.returns
 returns g c =

@@ -1,44 +1,34 @@
-use Rattle.std.proofs.Common.{◌≡◌, ◌+◌, drop, length, get_or, slice_index_or, sym, ap, ◌∙◌, arith}
-use Rattle.std.proofs.lemmas.List.{drop_more, drop_all, length-drop}
+use Rattle.std.proofs.Common.{◌≡◌, suc, ◌+◌, ◌-◌, length, slice_index_or, sym, ap, ◌∙◌, arith}
 use Rattle.writing.specs.Rows.{cells_in}
-use Rattle.writing.specs.Runs.{no_cell, run}
+use Rattle.writing.specs.Runs.{no_cell, runs}
 use Rattle.writing.specs.Written.{link_to}
-use Rattle.writing.proofs.RunSteps.{link_last, link_next, record_more, records_done}
-use Rattle.writing.proofs.Tiles.{begins_below}
+use Rattle.writing.proofs.RunSteps.{link_none, link_some, stands_as, stands_on, stands_end}
 use Rattle.writing.proofs.rows.Row.put.Goals as goal
-use Rattle.writing.proofs.rows.Row.put.Goals.{then-i-len, else-i-len}
+use Rattle.writing.proofs.rows.Row.put.Goals.{then-ends_run, then-to-inputs, else-to-inputs, else-ends_run}
 
-pub bounds-deref-run : goal.bounds-deref-run
-bounds-deref-run c =
-    let k = length c.args.self.now.cells.items in
-    let e = c.deref-run-items.ensures.0 ∙ c.runs-runs.ensures in
-    let b = begins_below (cells_in c.args.self.now) k c.loop-i.i c.deref-run-items.result.now (run 0 0) e c.loop-i-test.true in
-    omega (arith, b, ap length c.deref.ensures.0)
-
-pub loop-i-preserved : goal.loop-i-preserved
-loop-i-preserved c =
-    let items = c.deref-run-items.result.now in
-    let i = c.loop-i.i in
-    let r = c.args.first + i in
-    let rest = drop (i + 1) items in
-    let long = length-drop (i + 1) items in
-    let all : c.len.result ≡ length items = c.len.ensures.value ∙ ap length (sym c.deref-run-items.ensures.0) in
-    let link : c.if-i-len.link ≡ link_to (r + 1) rest =
-    elim c.if-i-len.branch [
-      | then-i-len w ↦ w.link-is ∙ sym (link_last (r + 1) rest (omega (arith, w.if-i-len.true, all, long)))
-      | else-i-len w ↦ w.link-is ∙ sym (link_next (r + 1) rest (omega (arith, w.if-i-len.false, all, long, c.loop-i-test.true)))
-    ] in
-    let x = get_or items i (run 0 0) in
-    let cell : slice_index_or c.deref.result.now x.from no_cell ≡ cells_in c.args.self.now x.from =
-    ap (λ xs. slice_index_or xs x.from no_cell) c.deref.ensures.0 in
-    record_more (cells_in c.args.self.now) c.args.states r (c.args.first + (i + 1)) c.if-i-len.link c.loop-i.out c.put.new.out x
-    (slice_index_or c.deref.result.now x.from no_cell) (drop i items) rest
-    (omega arith) (drop_more items i (run 0 0) c.loop-i-test.true) (omega (arith, c.requires.some)) link cell (cc (c.put.ensures, c.record_place.ensures))
-    ∙ c.loop-i.invariant
-
-pub returns : goal.returns
-returns c =
+pub loop-to-preserved : goal.loop-to-preserved
+loop-to-preserved c =
     let row = cells_in c.args.self.now in
-    let items = c.deref-run-items.result.now in
-    records_done row c.args.states c.args.first (c.args.first + c.loop-i.i) c.args.out.now c.loop-i.out items _ _
-    (drop_all c.loop-i.i items c.loop-i-test.false) (c.deref-run-items.ensures.0 ∙ c.runs-runs.ensures) c.loop-i.invariant
+    let k = length c.args.self.now.cells.items in
+    let a = c.loop-to.from in
+    let i = c.loop-to.to in
+    let m = k - (i + 1) in
+    let r = c.loop-to.number in
+    let e : k - i ≡ suc m = omega (arith, c.len-inputs.ensures.value) in
+    elim c.if-ends_run.branch [
+      | then-ends_run w ↦
+          let link : w.if-to-inputs.link ≡ link_to (r + 1) (runs row k (i + 1) (i + 1) m) =
+          elim w.if-to-inputs.branch [
+            | then-to-inputs u ↦ u.link-is ∙ link_none row k (i + 1) (i + 1) m (r + 1) (omega (arith, u.if-to-inputs.true, c.len-inputs.ensures.value))
+            | else-to-inputs u ↦ u.link-is ∙ link_some row k (i + 1) (i + 1) m (k - (i + 2)) (r + 1)
+                (omega (arith, u.if-to-inputs.false, c.len-inputs.ensures.value)) (omega (arith, c.len-inputs.ensures.value))
+          ] in
+          let cell = ap (λ xs. slice_index_or xs a no_cell) w.deref.ensures.0 in
+          stands_as row k _ _ _ _ _ _ _ _ _ _ _ w.out-is w.from-is w.number-is
+          (stands_end row k c.args.states c.args.first c.args.out.now c.loop-to.out a i (k - i) m r e c.loop-to.invariant
+          w.put.new.out w.record_place.result w.if-to-inputs.link (slice_index_or w.deref.result.now a no_cell)
+          (sym w.if-ends_run.ensures) c.requires.some cell w.record_place.ensures link w.put.ensures)
+      | else-ends_run w ↦ stands_as row k _ _ _ _ _ _ _ _ _ _ _ w.out-is w.from-is w.number-is
+          (stands_on row k c.args.states c.args.first c.args.out.now c.loop-to.out a i (k - i) m r e c.loop-to.invariant
+          (sym w.if-ends_run.ensures))
+    ]

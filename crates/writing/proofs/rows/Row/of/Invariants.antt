@@ -1,9 +1,0 @@
-use Rattle.std.proofs.Common.{◌≡◌, ℕ, ◌<◌, length, slice_index_or}
-use Rattle.writing.specs.Runs.{no_cell, row_of}
-use Rattle.writing.proofs.rows.Row.of.Given as goal
-
-abbrev pub invariant-loop-input : goal.invariant-loop-input
-invariant-loop-input g l = record {
-  long : length l.cells.items ≡ l.input;
-  each : (i : ℕ) → i < l.input → slice_index_or l.cells.items i no_cell ≡ row_of (g.M.Machine.means l.machine) l.state i;
-}
