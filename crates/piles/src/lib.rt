@@ -6,10 +6,11 @@ mod orders;
 
 #[cfg(test)]
 mod tests {
+    use crate::orders::own;
     use forms::Ring;
-    use layers::{Beside, Keymap, KeymapFault, LayerFault, PairFault, Train};
+    use layers::{Beside, Keymap, KeymapFault, PairFault, Train};
     use machine::faults::Fault as _;
-    use machine::{Cause, CheckRefusal, Fault, Machine, OwnFault, StoredFault};
+    use machine::{Cause, CheckRefusal, Fault, Machine, StoredFault};
     use samples::{cell, fault};
     use std::test::Fail;
 
@@ -26,7 +27,7 @@ mod tests {
     fn one_state_too_many(rt: HostRuntime) -> Result<(), Fail> {
         let both = Beside::new(Ring::open(64)?, Ring::open(65)?);
         assert_eq!(rt; both.states(), 0);
-        let own = PairFault::Own(LayerFault::own(Cause::Misfit, 0, 0));
+        let own = PairFault::Own(own(Cause::Misfit, 0, 0));
         assert_eq!(rt; machine::check(&both), Err(CheckRefusal::Misfit(own)));
         Ok(())
     }

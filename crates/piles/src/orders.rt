@@ -2,26 +2,35 @@
 use forms::Ring;
 use forms::grids::BLANK;
 use layers::{Beside, Keymap, KeymapFault, LayerFault, PairFault, Train};
-use machine::{Cause, Machine, OwnFault};
+use machine::{Cause, Machine};
 use samples::{cell, fault, grid};
 use std::test::Fail;
+
+// written out, since `LayerFault::own` is what the layers themselves answer by
+pub(crate) fn own(cause: Cause, state: u16, input: u16) -> LayerFault {
+    LayerFault {
+        cause,
+        state,
+        input,
+    }
+}
 
 #[test]
 fn a_misfit_is_told_before_any_range(rt: HostRuntime) -> Result<(), Fail> {
     let many = Beside::new(Ring::open(64)?, Ring::open(65)?);
     assert_eq!(rt;
         many.entry(65535, 65535),
-        Err(PairFault::Own(LayerFault::own(Cause::Misfit, 65535, 65535)))
+        Err(PairFault::Own(own(Cause::Misfit, 65535, 65535)))
     );
     let pairs = Train::new(Ring::open(43)?, Ring::open(3)?);
     assert_eq!(rt;
         pairs.entry(0, 3),
-        Err(PairFault::Own(LayerFault::own(Cause::Misfit, 0, 3)))
+        Err(PairFault::Own(own(Cause::Misfit, 0, 3)))
     );
     let none = Keymap::new(Ring::open(3)?, &[]);
     assert_eq!(rt;
         none.entry(3, 0),
-        Err(KeymapFault::Own(LayerFault::own(Cause::Misfit, 3, 0)))
+        Err(KeymapFault::Own(own(Cause::Misfit, 3, 0)))
     );
     Ok(())
 }
@@ -31,9 +40,9 @@ fn a_misfit_part_answers_for_the_same_numbers(rt: HostRuntime) -> Result<(), Fai
     let many = Beside::new(Ring::open(64)?, Ring::open(65)?);
     assert_eq!(rt;
         Keymap::new(many, &[0]).entry(200, 7),
-        Err(KeymapFault::Part(PairFault::Own(LayerFault::own(Cause::Misfit, 200, 7))))
+        Err(KeymapFault::Part(PairFault::Own(own(Cause::Misfit, 200, 7))))
     );
-    let fault = KeymapFault::Own(LayerFault::own(Cause::Misfit, 9, 5));
+    let fault = KeymapFault::Own(own(Cause::Misfit, 9, 5));
     let upper = Train::new(Ring::open(3)?, Keymap::new(Ring::open(3)?, &[]));
     assert_eq!(rt; upper.entry(9, 5), Err(PairFault::Second(fault)));
     let both = Train::new(
@@ -49,29 +58,29 @@ fn a_layer_tests_states_and_then_inputs(rt: HostRuntime) -> Result<(), Fail> {
     let beside = Beside::new(Ring::open(2)?, Ring::open(3)?);
     assert_eq!(rt;
         beside.entry(5, 3),
-        Err(PairFault::Own(LayerFault::own(Cause::State, 5, 3)))
+        Err(PairFault::Own(own(Cause::State, 5, 3)))
     );
     assert_eq!(rt;
         beside.entry(4, 3),
-        Err(PairFault::Own(LayerFault::own(Cause::Input, 4, 3)))
+        Err(PairFault::Own(own(Cause::Input, 4, 3)))
     );
     let train = Train::new(Ring::open(2)?, Ring::open(3)?);
     assert_eq!(rt;
         train.entry(6, 3),
-        Err(PairFault::Own(LayerFault::own(Cause::State, 6, 3)))
+        Err(PairFault::Own(own(Cause::State, 6, 3)))
     );
     assert_eq!(rt;
         train.entry(5, 3),
-        Err(PairFault::Own(LayerFault::own(Cause::Input, 5, 3)))
+        Err(PairFault::Own(own(Cause::Input, 5, 3)))
     );
     let keys = Keymap::new(Ring::open(2)?, &[0, 9]);
     assert_eq!(rt;
         keys.entry(2, 1),
-        Err(KeymapFault::Own(LayerFault::own(Cause::State, 2, 1)))
+        Err(KeymapFault::Own(own(Cause::State, 2, 1)))
     );
     assert_eq!(rt;
         keys.entry(1, 2),
-        Err(KeymapFault::Own(LayerFault::own(Cause::Input, 1, 2)))
+        Err(KeymapFault::Own(own(Cause::Input, 1, 2)))
     );
     Ok(())
 }

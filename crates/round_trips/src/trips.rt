@@ -4,7 +4,7 @@ ghost use Rattle.std.specs.Prelude.{◌≡◌, is_ok};
 use forms::grids::BLANK;
 use forms::{Chain, Grid, OpenRefusal, Ring};
 use layers::{Beside, Keymap, LayerFault, PairFault, Train};
-use machine::{Cause, CheckRefusal, Command, Fault, Machine, OwnFault, StoredFault};
+use machine::{Cause, CheckRefusal, Command, Fault, Machine, StoredFault};
 use samples::{bytes_of, fault, grid};
 use six_states::{CELLS, FRONT, RECORDS};
 use std::alloc::Global;
@@ -154,7 +154,11 @@ fn a_chain_is_put_in_normal_form(rt: HostRuntime) -> Result<(), Fail> {
 #[test]
 fn a_misfit_is_not_written(rt: HostRuntime) -> Result<(), Fail> {
     let many = Beside::new(Ring::open(64)?, Ring::open(65)?);
-    let fault = LayerFault::own(Cause::Misfit, 0, 0);
+    let fault = LayerFault {
+        cause: Cause::Misfit,
+        state: 0,
+        input: 0,
+    };
     let misfit = WriteRefusal::Unsound(CheckRefusal::Misfit(PairFault::Own(fault)));
     let mut out = [7u8; 4];
     assert_eq!(rt; write_chain(&many, &mut out), Err(misfit));
