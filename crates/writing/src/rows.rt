@@ -85,7 +85,7 @@ impl Row {
         input == last || self.cells[input] != self.cells[input + 1]
     }
 
-    // stays: here and in `put` the runs as they end; by a list of them, made for each, a chain of 128 x 1 takes three times as long to write
+    // stays: here and in `put` the runs as they end; by a list of them, filled and copied each time, a chain of 128 x 1 took half as long again to write
     pub(crate) fn count_runs(&self) -> u16
         ensures { result ≡ length (runs_in self.now) }
     {
